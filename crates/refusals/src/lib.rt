@@ -1,0 +1,2 @@
+mod refusal;
+pub use refusal::{Refusal, RefusalDebug, RefusalDisplay, RefusalError, RefusalPartialEq};

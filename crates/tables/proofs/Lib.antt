@@ -1,0 +1,9 @@
+pub mod Sums
+pub mod Digits
+pub mod Onto
+pub mod Reindex
+pub mod Carries
+pub mod Published
+pub mod Growing
+pub mod Weights
+pub mod Reading

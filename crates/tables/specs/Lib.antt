@@ -1,0 +1,6 @@
+pub mod Sums
+pub mod Wirings
+pub mod Agreement
+pub mod Equivalence
+pub mod RowCheck
+pub mod Making
