@@ -14,14 +14,11 @@ use Rattle.std.proofs.shelf.Tests.{cases-eq, cases-lt}
 use Rattle.tables.specs.Sums.{sumTo}
 use Rattle.tables.specs.Wirings.{Placed, Wires, Alike}
 use Rattle.tables.specs.Agreement.{bit, Carried, Agree}
+use Rattle.tables.specs.Carry.{carry}
 use Rattle.tables.proofs.Sums.{sum-ext, sum-reindex, sum-zero, sum-le, sum-swap, sum-single, at, at-yes, at-no}
 use Rattle.tables.proofs.Digits.{bit-lt, low-bit, bits-ext}
 use Rattle.tables.proofs.Onto.{back, back-into, there-back, back-there}
 use Rattle.tables.proofs.Reindex.{row-there, there-lt, carried, bit-there}
-
--- the row that the first k bits of r are carried to
-abbrev pub carry : ℕ → (ℕ → ℕ) → ℕ → ℕ
-carry k w r = sumTo k (λ i. bit i r * 2 ^ w i)
 
 pub carry-there : (n : ℕ) (w : ℕ → ℕ) (h : Wires n w) (r : ℕ) → carry n w r ≡ row-there n w h r
 carry-there n w h r =

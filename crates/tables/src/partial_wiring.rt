@@ -21,3 +21,18 @@ pub struct PartialWiring {
     ghost marked: { (i : ℕ) → i < len → getD used (pin pins i) false ≡ true },
     ghost unmarked: { (p : ℕ) → ((i : ℕ) → i < len → pin pins i ≡ p → ⊥) → getD used p false ≡ false },
 }
+
+impl PartialWiring {
+    pub fn inputs(&self) -> usize
+        ensures { λ r. ⌜ r ≡ now (self .entry) .inputs ⌝ }
+    {
+        self.inputs
+    }
+
+    // How many inputs have their pins.
+    pub fn len(&self) -> usize
+        ensures { λ r. ⌜ r ≡ now (self .entry) .len ⌝ }
+    {
+        self.len
+    }
+}

@@ -11,7 +11,8 @@ use Rattle.tables.specs.Wirings.{pin}
 use Rattle.tables.specs.Agreement.{Agree}
 use Rattle.tables.specs.RowCheck.{Checked}
 use Rattle.tables.specs.declared.wiring.Wiring.{Wiring}
-use Rattle.tables.proofs.Carries.{carry, carried-only, agree-row, rows-agree}
+use Rattle.tables.specs.Carry.{carry}
+use Rattle.tables.proofs.Carries.{carried-only, agree-row, rows-agree}
 use Rattle.tables.proofs.Published.{checked, not-so, so}
 use Rattle.tables.proofs.Reading.{same-inputs, row-at, same-rows}
 use Rattle.tables.proofs.Reindex.{total-there}

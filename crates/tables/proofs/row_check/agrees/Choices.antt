@@ -3,7 +3,7 @@ use mathlib.Core.Bool.{true}
 use Prim.Native.Nat.{ℕ, _<_}
 use lib.ListN.{getD}
 use Rattle.tables.specs.Wirings.{pin}
-use Rattle.tables.proofs.Carries.{carry}
+use Rattle.tables.specs.Carry.{carry}
 use Rattle.tables.proofs.row_check.agrees.Given as given
 
 abbrev pub Inv-loop-r : given.InvT-loop-r

@@ -5,7 +5,8 @@ use native.Mathlib.Omega.{arith}
 use lib.Pow.{pow-mono}
 use Rattle.tables.specs.Wirings.{pin, Wires}
 use Rattle.tables.specs.declared.wiring.Wiring.{Wiring}
-use Rattle.tables.proofs.Carries.{carry, carry-more, carry-skip, carry-small, carry-lt, carry-carried}
+use Rattle.tables.specs.Carry.{carry}
+use Rattle.tables.proofs.Carries.{carry-more, carry-skip, carry-small, carry-lt, carry-carried}
 use Rattle.tables.proofs.wiring.Wiring.carry.Needs as need
 use Rattle.tables.proofs.wiring.Wiring.carry.Needs.{then-row-i-eq1, else-row-i-eq1}
 

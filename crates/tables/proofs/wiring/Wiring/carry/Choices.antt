@@ -1,6 +1,6 @@
 use mathlib.Core.Path.{_≡_}
 use Rattle.tables.specs.Wirings.{pin}
-use Rattle.tables.proofs.Carries.{carry}
+use Rattle.tables.specs.Carry.{carry}
 use Rattle.tables.proofs.wiring.Wiring.carry.Given as given
 
 abbrev pub Inv-loop-i : given.InvT-loop-i

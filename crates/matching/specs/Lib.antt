@@ -1,0 +1,3 @@
+pub mod Struck
+pub mod Search
+pub mod Begun

@@ -1,0 +1,4 @@
+mod Tests
+mod Agreeing
+mod Drives
+mod Standing
