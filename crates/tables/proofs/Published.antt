@@ -11,7 +11,8 @@ use Rattle.std.proofs.shelf.Tests.{cases-eq, ne-eqb, false≢true}
 use Rattle.tables.specs.Wirings.{Wires, Inverse}
 use Rattle.tables.specs.Agreement.{bit, Agree}
 use Rattle.tables.specs.Equivalence.{named, Equivalent}
-use Rattle.tables.specs.RowCheck.{Exactly, Checked}
+use Rattle.std.specs.Orderings.{Decides}
+use Rattle.tables.specs.RowCheck.{Checked}
 use Rattle.tables.proofs.Digits.{number, bit-lt, number-lt, bit-number, bits-ext}
 use Rattle.tables.proofs.Onto.{back, back-into, there-back, back-there}
 
@@ -52,13 +53,13 @@ module _ {R : Type 0} (same : R → R → Bool) (n : ℕ) (w π : ℕ → ℕ) (
         ap (λ y. same (getD card y d) (getD part q d)) (sym er) ∙ ap (λ y. same (getD card (named n x) d) (getD part y d)) (sym eq) ∙ e x d;
   }
 
-pub not-so : (P : Type 0) → (P → ⊥) → Exactly false P
+pub not-so : (P : Type 0) → (P → ⊥) → Decides false P
 not-so P off = ((λ e. absurd (false≢true e)), λ p. absurd (off p))
 
-pub so : (P : Type 0) → P → Exactly true P
+pub so : (P : Type 0) → P → Decides true P
 so P p = ((λ _. p), λ _. refl)
 
-pub checked : {R : Type 0} (same : R → R → Bool) (n : ℕ) (w : ℕ → ℕ) (card part : List R) (r : Bool) → Wires n w → Exactly r (Agree same n w card part) → Checked same n w card part r
+pub checked : {R : Type 0} (same : R → R → Bool) (n : ℕ) (w : ℕ → ℕ) (card part : List R) (r : Bool) → Wires n w → Decides r (Agree same n w card part) → Checked same n w card part r
 checked same n w card part r h x = record {
   agree = x;
   equivalent = λ π inv. ((λ e. let a = x .0 e in (a .card-rows, a .part-rows, agree-equivalent same n w π inv card part a)), λ t. x .1 (equivalent-agree same n w π inv card part h (t .0) (t .1) (t .2)));

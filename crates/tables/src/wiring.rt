@@ -7,10 +7,12 @@ mod making;
 mod carry;
 mod inverse;
 mod order;
+mod equality;
+pub use equality::{WiringEq, WiringPartialEq};
 
 // A wiring for n inputs: the pin of each card input, below n, and no pin twice. The places past n hold 0, so that
 // two wirings are equal when they give each input the same pin.
-#[derive(Clone, Copy, PartialEq, Eq, Debug)]
+#[derive(Clone, Copy, Debug)]
 pub struct Wiring {
     pub(crate) inputs: usize,
     pub(crate) pins: [u8; 10],
