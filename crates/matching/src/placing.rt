@@ -18,7 +18,7 @@ pub fn place<R: RowKind>(card: &Table<R>, part: &Table<R>, strikes: &Strikes, be
         return None;
     }
     let longer = begun.with(pin)?;
-    if !settle(card.rows(), part.rows(), input, at, carried) {
+    if !settle(card.rows, part.rows, input, at, carried) {
         return None;
     }
     Some(longer)

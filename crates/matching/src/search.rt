@@ -29,14 +29,17 @@ fn extend<R: RowKind>(card: &Table<R>, part: &Table<R>, strikes: &Strikes, begun
 pub fn first_wiring<R: RowKind>(card: &Table<R>, part: &Table<R>, strikes: &Strikes) -> Option<Wiring>
     ensures { λ r. ⌜ Found (R·RowKind .same) (now (card .entry)) (now (part .entry)) (now (strikes .entry) .struck) r ⌝ }
 {
-    if card.inputs() != part.inputs() || total_weight(card) != total_weight(part) {
+    if card.inputs != part.inputs {
         return None;
     }
-    if !card.rows()[0].is_same(&part.rows()[0]) {
+    if total_weight(card) != total_weight(part) {
+        return None;
+    }
+    if !card.rows[0].is_same(&part.rows[0]) {
         return None;
     }
     let mut carried = [0; 1024];
-    match PartialWiring::empty(card.inputs()) {
+    match PartialWiring::empty(card.inputs) {
         Ok(begun) => extend(card, part, strikes, &begun, &mut carried),
         Err(_) => unreachable(),
     }

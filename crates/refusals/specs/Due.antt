@@ -18,7 +18,5 @@ first false k rest = rest
 
 -- what a call answers: the refusal that is due, or where none is due a value of which P holds
 abbrev pub Outcome : {T : Type 0} → Due → (T → Type 0) → Result T Refusal → Type 0
-Outcome none P (Ok value) = P value
-Outcome none P (Err reason) = ⊥
-Outcome (refusal k) P (Ok value) = ⊥
-Outcome (refusal k) P (Err reason) = number reason ≡ k
+Outcome due P (Ok value) = (due ≡ none) × P value
+Outcome due P (Err reason) = due ≡ refusal (number reason)

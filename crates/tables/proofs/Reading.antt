@@ -18,10 +18,7 @@ same-inputs m n e =
     (λ ge. ⊎-elim (λ x. sym x) (λ ne. let l : n < m = omega arith in let p : 2 ^ n < 2 ^ m = pow-lt l in absurd (omega arith)) (cases-eq n m))
     (cases-lt m n)
 
-module _ {R : Type 0} where
-  -- x is what stands at i in the lent rows
-  pub row-at : (lent rows : List R) (i : ℕ) (x : R) → lent ≡ rows → i < length rows → x ≡ getD lent i x → (d : R) → getD rows i d ≡ x
-  row-at lent rows i x e lt is d = sym (getD-read rows i x lt (is ∙ ap (λ l. getD l i x) e) d)
-
-  pub same-rows : (same : R → R → Bool) (card part : List R) (r q : ℕ) (x y : R) (b : Bool) → ((d : R) → getD card r d ≡ x) → ((d : R) → getD part q d ≡ y) → same x y ≡ b → (d : R) → same (getD card r d) (getD part q d) ≡ b
-  same-rows same card part r q x y b ex ey e d = ap (λ z. same z (getD part q d)) (ex d) ∙ ap (λ z. same x z) (ey d) ∙ e
+-- x is the card's row r, and y the part's row q
+pub same-rows : {R : Type 0} (same : R → R → Bool) (card part : List R) (r q : ℕ) (x y : R) (b : Bool) → r < length card → q < length part → x ≡ getD card r x → y ≡ getD part q y → same x y ≡ b → (d : R) → same (getD card r d) (getD part q d) ≡ b
+same-rows same card part r q x y b lr lq ex ey e d =
+    ap (λ z. same z (getD part q d)) (sym (getD-read card r x lr ex d)) ∙ ap (λ z. same x z) (sym (getD-read part q y lq ey d)) ∙ e

@@ -14,15 +14,11 @@ use Rattle.refusals.specs.Numbers.{number}
 use Rattle.refusals.specs.declared.refusal.Refusal.{Refusal}
 use Rattle.tables.specs.Wirings.{pin, Wires, Alike}
 use Rattle.tables.specs.declared.partial_wiring.PartialWiring.{PartialWiring}
-use Rattle.tables.specs.declared.table.Table.{Table}
 use Rattle.tables.specs.declared.wiring.Wiring.{Wiring}
 
 -- a table of n inputs and so many rows: more than ten inputs is refused with 3, then rows that are not 2^n with 4
 abbrev pub table-due : ℕ → ℕ → Due
 table-due n rows = first (ltb 10 n) 3 (first (not (eqb rows (2 ^ n))) 4 none)
-
-abbrev pub IsTable : {R : Type 0} → ℕ → List R → Table R → Type 0
-IsTable n rows t = (t .inputs ≡ n) × (t .rows .now ≡ rows)
 
 -- a wiring of more than ten inputs is refused with 3
 abbrev pub wiring-due : ℕ → Due

@@ -12,7 +12,7 @@ pub fn total_weight<R: RowKind>(table: &Table<R>) -> u32
     ensures { λ r. ⌜ r ≡ weighed (R·RowKind .weight) (now (now (table .entry) .rows)) (2 ^ now (table .entry) .inputs) ⌝ }
 {
     let mut sum = 0;
-    for (r, row) in table.rows().iter().enumerate() {
+    for (r, row) in table.rows.iter().enumerate() {
         sum += row.weight() as u32;
     }
     sum
@@ -23,15 +23,15 @@ pub fn agrees<R: RowKind>(card: &Table<R>, part: &Table<R>, wiring: &Wiring) -> 
     ensures { λ r. ⌜ Checked (R·RowKind .same) (now (wiring .entry) .inputs) (pin (now (wiring .entry) .pins)) (now (now (card .entry) .rows)) (now (now (part .entry) .rows)) r ⌝ }
 {
     let inputs = wiring.inputs();
-    if card.inputs() != inputs || part.inputs() != inputs {
+    if card.inputs != inputs || part.inputs != inputs {
         return false;
     }
     if total_weight(card) != total_weight(part) {
         return false;
     }
-    for (r, row) in card.rows().iter().enumerate() {
+    for (r, row) in card.rows.iter().enumerate() {
         let q = wiring.carry(r);
-        if !row.is_same(&part.rows()[q]) {
+        if !row.is_same(&part.rows[q]) {
             return false;
         }
     }

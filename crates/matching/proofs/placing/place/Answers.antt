@@ -26,13 +26,11 @@ settle-requires g c κs =
     let up : 2 ^ (begun .len + 1) ≤ 2 ^ begun .inputs = pow-mono le in
     let top : 2 ^ begun .inputs ≤ 2 ^ 10 = pow-mono few in
     let two = pow-two (begun .len) in
-    let lc : length (c .rows .result .now) ≡ 2 ^ begun .inputs = ap length (c .rows .ensures) ∙ card-whole same card part strikes begun (c .args .carried .now) (c .pre .begun) in
-    let lp : length (c .rows-2 .result .now) ≡ 2 ^ begun .inputs = ap length (c .rows-2 .ensures) ∙ part-whole same card part strikes begun (c .args .carried .now) (c .pre .begun) in
+    let lc : length (card .rows .now) ≡ 2 ^ begun .inputs = card-whole same card part strikes begun (c .args .carried .now) (c .pre .begun) in
+    let lp : length (part .rows .now) ≡ 2 ^ begun .inputs = part-whole same card part strikes begun (c .args .carried .now) (c .pre .begun) in
     let half : 2 ^ c .len-input .result ≡ 2 ^ begun .len = ap (λ k. 2 ^ k) el in
     (omega (arith, el), (omega (arith, low, few), (omega (arith, half, two, up, lc), (omega (arith, lp, top),
-      λ r lr.
-        let inside = in-part same card part strikes begun (c .args .carried .now) (c .pre .begun) (c .args .pin) longer grown r (omega (arith, lr, half)) in
-        omega (arith, inside, ap length (c .rows-2 .ensures))))))
+      λ r lr. in-part same card part strikes begun (c .args .carried .now) (c .pre .begun) (c .args .pin) longer grown r (omega (arith, lr, half))))))
 
 pub returns-then-not-settle : need.returns-then-not-settle
 returns-then-not-settle g c =
@@ -42,12 +40,10 @@ returns-then-not-settle g c =
     let begun = c .args .begun .now in
     let carried = c .args .carried .now in
     let half : 2 ^ c .len-input .result ≡ 2 ^ begun .len = ap (λ k. 2 ^ k) (c .len-input .ensures) in
-    let off : Differs same (c .rows .result .now) (c .rows-2 .result .now) (2 ^ c .len-input .result) (2 ^ c .args .pin) carried = c .settle .ensures .differs (c .if-not-settle .taken) in
+    let off : Differs same (card .rows .now) (part .rows .now) (2 ^ c .len-input .result) (2 ^ c .args .pin) carried = c .settle .ensures .differs (c .if-not-settle .taken) in
     record {
       answer = differs-none same card part (c .args .strikes .now .struck) begun carried (c .pre .begun) (c .args .pin) (c .pre .open)
-          (subst (λ h. Differs same (card .rows .now) (part .rows .now) h (2 ^ c .args .pin) carried) half
-            (subst (λ rows. Differs same (card .rows .now) rows (2 ^ c .len-input .result) (2 ^ c .args .pin) carried) (c .rows-2 .ensures)
-              (subst (λ rows. Differs same rows (c .rows-2 .result .now) (2 ^ c .len-input .result) (2 ^ c .args .pin) carried) (c .rows .ensures) off)));
+          (subst (λ h. Differs same (card .rows .now) (part .rows .now) h (2 ^ c .args .pin) carried) half off);
       kept = λ r lr. c .settle .ensures .kept r (omega (arith, half));
     }
 
@@ -62,13 +58,11 @@ returns g c =
     let grown = c .in-Continue-longer .ensures tt in
     let half : 2 ^ c .len-input .result ≡ 2 ^ begun .len = ap (λ k. 2 ^ k) (c .len-input .ensures) in
     let kept : Kept (2 ^ begun .len) carried now = λ r lr. c .settle .ensures .kept r (omega (arith, half)) in
-    let on : Settled same (c .rows .result .now) (c .rows-2 .result .now) (2 ^ c .len-input .result) (2 ^ c .len-input .result) (2 ^ c .args .pin) carried now = c .settle .ensures .settled (c .if-not-settle .left) in
+    let on : Settled same (card .rows .now) (part .rows .now) (2 ^ c .len-input .result) (2 ^ c .len-input .result) (2 ^ c .args .pin) carried now = c .settle .ensures .settled (c .if-not-settle .left) in
     let free : struck (c .args .strikes .now .struck) (begun .len) (c .args .pin) ≡ false =
         ap (λ k. struck (c .args .strikes .now .struck) k (c .args .pin)) (sym (c .len-input .ensures)) ∙ sym (c .is-struck .ensures) ∙ c .if-is-struck .left in
     record {
       answer = (grown, begun-more same card part (c .args .strikes .now .struck) begun carried (c .pre .begun) (c .args .pin) (c .in-Continue-longer .longer) grown free now kept
-          (subst (λ h. Settled same (card .rows .now) (part .rows .now) h h (2 ^ c .args .pin) carried now) half
-            (subst (λ rows. Settled same (card .rows .now) rows (2 ^ c .len-input .result) (2 ^ c .len-input .result) (2 ^ c .args .pin) carried now) (c .rows-2 .ensures)
-              (subst (λ rows. Settled same rows (c .rows-2 .result .now) (2 ^ c .len-input .result) (2 ^ c .len-input .result) (2 ^ c .args .pin) carried now) (c .rows .ensures) on))));
+          (subst (λ h. Settled same (card .rows .now) (part .rows .now) h h (2 ^ c .args .pin) carried now) half on));
       kept = kept;
     }

@@ -14,23 +14,23 @@ use Rattle.tables.specs.declared.wiring.Wiring.{Wiring}
 use Rattle.tables.specs.Carry.{carry}
 use Rattle.tables.proofs.Carries.{carried-only, agree-row, rows-agree}
 use Rattle.tables.proofs.Published.{checked, not-so, so}
-use Rattle.tables.proofs.Reading.{same-inputs, row-at, same-rows}
+use Rattle.tables.proofs.Reading.{same-inputs, same-rows}
 use Rattle.tables.proofs.Reindex.{total-there}
 use Rattle.tables.proofs.row_check.agrees.Needs as need
-use Rattle.tables.proofs.row_check.agrees.Needs.{then-inputs·by·then-inputs, then-inputs·by·else-inputs·then-inputs-2}
+use Rattle.tables.proofs.row_check.agrees.Needs.{then-card-inputs·by·then-card-inputs, then-card-inputs·by·else-card-inputs·then-part-inputs}
 
 refuse : {R : Type 0} (same : R → R → Bool) (x : Wiring) (card part : List R) → (Agree same (x .inputs) (pin (x .pins)) card part → ⊥) → Checked same (x .inputs) (pin (x .pins)) card part false
 refuse same x card part off = checked same (x .inputs) (pin (x .pins)) card part false (x .into, x .apart) (not-so _ off)
 
-pub returns-then-inputs : need.returns-then-inputs
-returns-then-inputs g c =
+pub returns-then-card-inputs : need.returns-then-card-inputs
+returns-then-card-inputs g c =
     let card = c .args .card .now in
     let part = c .args .part .now in
     let x = c .args .wiring .now in
     refuse (g .R·RowKind .same) x (card .rows .now) (part .rows .now) (λ a.
-      elim (c .then-inputs .came) [
-        then-inputs·by·then-inputs way ↦ way .if-inputs .taken (c .inputs .ensures ∙ same-inputs (card .inputs) (x .inputs) (sym (card .whole) ∙ a .card-rows) ∙ sym (c .inputs-inputs .ensures))
-      | then-inputs·by·else-inputs·then-inputs-2 way ↦ way .if-inputs-2 .taken (way .inputs-else-inputs .ensures ∙ same-inputs (part .inputs) (x .inputs) (sym (part .whole) ∙ a .part-rows) ∙ sym (c .inputs-inputs .ensures))
+      elim (c .then-card-inputs .came) [
+        then-card-inputs·by·then-card-inputs way ↦ way .if-card-inputs .taken (same-inputs (card .inputs) (x .inputs) (sym (card .whole) ∙ a .card-rows) ∙ sym (c .inputs-inputs .ensures))
+      | then-card-inputs·by·else-card-inputs·then-part-inputs way ↦ way .if-part-inputs .taken (same-inputs (part .inputs) (x .inputs) (sym (part .whole) ∙ a .part-rows) ∙ sym (c .inputs-inputs .ensures))
       ])
 
 pub returns-then-total-weight : need.returns-then-total-weight
@@ -56,12 +56,11 @@ returns-then-not-is-same g c =
     let q = c .carry-q .result in
     let d = c .row-item .result in
     refuse same x card part (λ a.
-      let within : r < length card = omega (arith, c .loop-r-test .taken, ap length (c .rows-row-items .ensures)) in
+      let within : r < length card = c .loop-r-test .taken in
       let lq : q < length part = omega (arith, c .carry-q .ensures .within, a .part-rows) in
       let eq : q ≡ carry (x .inputs) w r = carried-only (x .inputs) w (a .wires) r q (c .carry-q .ensures .within) (c .carry-q .ensures .carried) in
       let off : same (getD card r d) (getD part q d) ≡ false =
-          same-rows same card part r q d (c .index-rows-q .result) false (row-at (c .rows-row-items .result .now) card r d (c .rows-row-items .ensures) within (c .row-item .is))
-          (row-at (c .rows .result .now) part q (c .index-rows-q .result) (c .rows .ensures) lq (c .index-rows-q .is)) (sym (c .if-not-is-same .ensures tt)) d in
+          same-rows same card part r q d (c .index-part-q .result) false within lq (c .row-item .is) (c .index-part-q .is) (ap (λ y. same (c .row-item .result) y) (c .index-part-q .is) ∙ sym (c .if-not-is-same .ensures tt)) d in
       both-ways _ off (ap (λ y. same (getD card r d) (getD part y d)) eq ∙ agree-row same (x .inputs) card part w a r d (omega (arith, within, a .card-rows))))
 
 pub loop-r-again : need.loop-r-again
@@ -73,8 +72,7 @@ loop-r-again g c = λ k d lk.
     let w = pin (x .pins) in
     let r = c .loop-r .r in
     let q = c .carry-q .result in
-    let within : r < length card = omega (arith, c .loop-r-test .taken, ap length (c .rows-row-items .ensures)) in
-    let e : c .args .part .now .inputs ≡ x .inputs = omega (arith, c .inputs-else-inputs .ensures, c .if-inputs-2 .left, c .inputs-inputs .ensures) in
+    let e : c .args .part .now .inputs ≡ x .inputs = omega (arith, c .if-part-inputs .left, c .inputs-inputs .ensures) in
     let lq : q < length part = omega (arith, c .carry-q .ensures .within, c .args .part .now .whole, ap (λ n. 2 ^ n) e) in
     let eq : q ≡ carry (x .inputs) w r = carried-only (x .inputs) w (x .into, x .apart) r q (c .carry-q .ensures .within) (c .carry-q .ensures .carried) in
     ⊎-elim
@@ -82,8 +80,7 @@ loop-r-again g c = λ k d lk.
     (λ above.
         let here : k ≡ r = omega arith in
         ap (λ i. same (getD card i d) (getD part (carry (x .inputs) w i) d)) here ∙ ap (λ y. same (getD card r d) (getD part y d)) (sym eq)
-        ∙ same-rows same card part r q (c .row-item .result) (c .index-rows-q .result) true (row-at (c .rows-row-items .result .now) card r (c .row-item .result) (c .rows-row-items .ensures) within (c .row-item .is))
-          (row-at (c .rows .result .now) part q (c .index-rows-q .result) (c .rows .ensures) lq (c .index-rows-q .is)) (sym (c .if-not-is-same .ensures tt)) d)
+        ∙ same-rows same card part r q (c .row-item .result) (c .index-part-q .result) true (c .loop-r-test .taken) lq (c .row-item .is) (c .index-part-q .is) (ap (λ y. same (c .row-item .result) y) (c .index-part-q .is) ∙ sym (c .if-not-is-same .ensures tt)) d)
     (cases-lt k r)
 
 pub returns : need.returns
@@ -92,9 +89,9 @@ returns g c =
     let card = c .args .card .now in
     let part = c .args .part .now in
     let x = c .args .wiring .now in
-    let ec : card .inputs ≡ x .inputs = omega (arith, c .inputs .ensures, c .if-inputs .left, c .inputs-inputs .ensures) in
-    let ep : part .inputs ≡ x .inputs = omega (arith, c .inputs-else-inputs .ensures, c .if-inputs-2 .left, c .inputs-inputs .ensures) in
+    let ec : card .inputs ≡ x .inputs = omega (arith, c .if-card-inputs .left, c .inputs-inputs .ensures) in
+    let ep : part .inputs ≡ x .inputs = omega (arith, c .if-part-inputs .left, c .inputs-inputs .ensures) in
     let whole : length (card .rows .now) ≡ 2 ^ x .inputs = card .whole ∙ ap (λ n. 2 ^ n) ec in
     checked same (x .inputs) (pin (x .pins)) (card .rows .now) (part .rows .now) true (x .into, x .apart)
     (so _ (rows-agree same (x .inputs) (card .rows .now) (part .rows .now) (pin (x .pins)) (x .into, x .apart) whole (part .whole ∙ ap (λ n. 2 ^ n) ep)
-      (λ r d lr. c .loop-r .inv r d (omega (arith, c .loop-r-test .left, ap length (c .rows-row-items .ensures), whole)))))
+      (λ r d lr. c .loop-r .inv r d (omega (arith, c .loop-r-test .left, whole)))))
