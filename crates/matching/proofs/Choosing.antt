@@ -55,7 +55,9 @@ module _ {R : Type 0} (same : R → R → Bool) (card part : Table R) (strikes :
 
     pub begun-kept : (now : List ℕ) → Kept (2 ^ k) carried now → Begun same card part strikes begun now
     begun-kept now kept = record {
-      card-inputs = h .card-inputs; part-inputs = h .part-inputs; spared = h .spared;
+      card-inputs = h .card-inputs;
+      part-inputs = h .part-inputs;
+      spared = h .spared;
       carries = λ r lt. kept r lt ∙ h .carries r lt;
       alike = h .alike;
     }
@@ -91,7 +93,7 @@ module _ {R : Type 0} (same : R → R → Bool) (card part : Table R) (strikes :
           let up : (r : ℕ) → carry (longer .len) u r ≡ carry (suc k) u r = λ r. ap (λ m. carry m u r) (ek ∙ add-one k) in
           let low : (r : ℕ) → r < 2 ^ k → carry k w r ≡ carry (longer .len) u r = λ r lt. sym (carry-ext k u w r (grown .2)) ∙ sym (carry-low k u r lt) ∙ sym (up r) in
           let high : (r : ℕ) → r < 2 ^ k → getD carried r 0 + 2 ^ p ≡ carry (longer .len) u (2 ^ k + r) = λ r lt.
-              (let a = carry-high k u r lt in let b = carry-ext k u w r (grown .2) in let m = h .carries r lt in let y = worth in let z = up (2 ^ k + r) in omega arith) in
+          (let a = carry-high k u r lt in let b = carry-ext k u w r (grown .2) in let m = h .carries r lt in let y = worth in let z = up (2 ^ k + r) in omega arith) in
           let two : 2 ^ longer .len ≡ 2 ^ k + 2 ^ k = ap (λ m. 2 ^ m) ek ∙ pow-two k in
           record {
             card-inputs = grown .0 ∙ h .card-inputs;
@@ -103,16 +105,16 @@ module _ {R : Type 0} (same : R → R → Bool) (card part : Table R) (strikes :
             carries = λ r lt. ⊎-elim
                 (λ l. kept r l ∙ h .carries r l ∙ low r l)
                 (λ g.
-                    let e : r ≡ 2 ^ k + (r - 2 ^ k) = omega arith in
-                    let l : r - 2 ^ k < 2 ^ k = omega arith in
-                    ap (λ y. getD now y 0) e ∙ s .carries (r - 2 ^ k) l ∙ high (r - 2 ^ k) l ∙ ap (λ y. carry (longer .len) u y) (sym e))
+                let e : r ≡ 2 ^ k + (r - 2 ^ k) = omega arith in
+                let l : r - 2 ^ k < 2 ^ k = omega arith in
+                ap (λ y. getD now y 0) e ∙ s .carries (r - 2 ^ k) l ∙ high (r - 2 ^ k) l ∙ ap (λ y. carry (longer .len) u y) (sym e))
                 (cases-lt r (2 ^ k));
             alike = λ r d lt. ⊎-elim
                 (λ l. ap (λ y. same (getD (card .rows .now) r d) (getD (part .rows .now) y d)) (sym (low r l)) ∙ h .alike r d l)
                 (λ g.
-                    let e : r ≡ 2 ^ k + (r - 2 ^ k) = omega arith in
-                    let l : r - 2 ^ k < 2 ^ k = omega arith in
-                    ap (λ y. same (getD (card .rows .now) y d) (getD (part .rows .now) (carry (longer .len) u y) d)) e ∙ ap (λ y. same (getD (card .rows .now) (2 ^ k + (r - 2 ^ k)) d) (getD (part .rows .now) y d)) (sym (high (r - 2 ^ k) l)) ∙ s .alike (r - 2 ^ k) d l)
+                let e : r ≡ 2 ^ k + (r - 2 ^ k) = omega arith in
+                let l : r - 2 ^ k < 2 ^ k = omega arith in
+                ap (λ y. same (getD (card .rows .now) y d) (getD (part .rows .now) (carry (longer .len) u y) d)) e ∙ ap (λ y. same (getD (card .rows .now) (2 ^ k + (r - 2 ^ k)) d) (getD (part .rows .now) y d)) (sym (high (r - 2 ^ k) l)) ∙ s .alike (r - 2 ^ k) d l)
                 (cases-lt r (2 ^ k));
           }
 
@@ -146,15 +148,16 @@ module _ {R : Type 0} (same : R → R → Bool) (card part : Table R) (strikes :
         let v = pin (x .pins) in
         let ea : (i : ℕ) → v i ≡ w i = λ i. ap (λ l. pin l i) ep in
         let inside : (i : ℕ) → i < n → i < k = λ i li. omega arith in
-        let wires : Wires n v = ((λ i li. let l = x .into i (omega arith) in omega arith), (λ i j t. let a = t .0 in let b = t .1 in x .apart i j (omega arith, omega arith, t .2))) in
-        (en ∙ ec,
-         record {
-           agree = rows-agree same n (card .rows .now) (part .rows .now) v wires (card .whole) (part-whole ∙ ap (λ m. 2 ^ m) ec)
-               (λ r d lr. ap (λ y. same (getD (card .rows .now) r d) (getD (part .rows .now) y d)) (carry-ext n v w r (λ i _. ea i) ∙ ap (λ m. carry m w r) (sym ek)) ∙ h .alike r d (subst (λ m. r < 2 ^ m) (sym ek) lr));
-           spared = λ i li. ap (λ y. struck strikes i y) (ea i) ∙ h .spared i (inside i li);
-         },
-         (λ i li. ea i),
-         λ v′ usable a. inl (λ i li. a i (inside i li) ∙ sym (ea i)))
+        let wires : Wires n v = ((λ i li. let l = x .into i (omega arith) in omega arith), (λ i j t. let a = t .0 in let b = t .1 in x .apart i j (omega arith, omega arith, t .2))) in (
+          en ∙ ec,
+          record {
+            agree = rows-agree same n (card .rows .now) (part .rows .now) v wires (card .whole) (part-whole ∙ ap (λ m. 2 ^ m) ec)
+                (λ r d lr. ap (λ y. same (getD (card .rows .now) r d) (getD (part .rows .now) y d)) (carry-ext n v w r (λ i _. ea i) ∙ ap (λ m. carry m w r) (sym ek)) ∙ h .alike r d (subst (λ m. r < 2 ^ m) (sym ek) lr));
+            spared = λ i li. ap (λ y. struck strikes i y) (ea i) ∙ h .spared i (inside i li);
+          },
+          (λ i li. ea i),
+          λ v′ usable a. inl (λ i li. a i (inside i li) ∙ sym (ea i)),
+        )
 
   module _ (begun : PartialWiring) where
     -- no usable wiring that begins so gives the next input a pin below p
@@ -175,15 +178,19 @@ module _ {R : Type 0} (same : R → R → Bool) (card part : Table R) (strikes :
       first-on x lk past found =
           let ek : longer .len ≡ begun .len + 1 = grown .1 in
           let begins : Begins same card part strikes begun (pin (x .pins)) = λ i li. found .2 i (omega arith) ∙ grown .2 i li in
-          let at-k : pin (x .pins) (begun .len) ≡ p = found .2 (begun .len) (omega arith) ∙ grown .3 in
-          (found .0, found .1, begins, λ v usable a.
-            ⊎-elim
-            (λ lt. absurd (past v usable a lt))
-            (λ ge. ⊎-elim
-              (λ e. found .3 v usable (goes-on v a e))
-              (λ ne. inr (begun .len, lk, (λ i li. begins i li ∙ sym (a i li)), omega arith))
-              (cases-eq (v (begun .len)) p))
-            (cases-lt (v (begun .len)) p))
+          let at-k : pin (x .pins) (begun .len) ≡ p = found .2 (begun .len) (omega arith) ∙ grown .3 in (
+            found .0,
+            found .1,
+            begins,
+            λ v usable a.
+                ⊎-elim
+                (λ lt. absurd (past v usable a lt))
+                (λ ge. ⊎-elim
+                (λ e. found .3 v usable (goes-on v a e))
+                (λ ne. inr (begun .len, lk, (λ i li. begins i li ∙ sym (a i li)), omega arith))
+                (cases-eq (v (begun .len)) p))
+                (cases-lt (v (begun .len)) p),
+          )
 
     pub none-left : (p : ℕ) → begun .len < card .inputs → card .inputs ≤ p → Past p → Within same card part strikes begun None
     none-left p lk le past v usable a = past v usable a (let l = usable .agree .wires .0 (begun .len) lk in omega arith)
@@ -198,7 +205,7 @@ module _ {R : Type 0} (same : R → R → Bool) (card part : Table R) (strikes :
       both-ways (same (getD (card .rows .now) 0 d) (getD (part .rows .now) 0 d)) (off d) (ap (λ y. same (getD (card .rows .now) 0 d) (getD (part .rows .now) y d)) (sym e) ∙ agree-row same n (card .rows .now) (part .rows .now) v (usable .agree) 0 d (omega arith))
 
   pub begun-empty : (begun : PartialWiring) (carried : List ℕ) → begun .inputs ≡ card .inputs → begun .len ≡ 0 → card .inputs ≡ part .inputs → getD carried 0 0 ≡ 0
-    → ((d : R) → same (getD (card .rows .now) 0 d) (getD (part .rows .now) 0 d) ≡ true) → Begun same card part strikes begun carried
+      → ((d : R) → same (getD (card .rows .now) 0 d) (getD (part .rows .now) 0 d) ≡ true) → Begun same card part strikes begun carried
   begun-empty begun carried en el ep zero-at here =
       let none : carry (begun .len) (pin (begun .pins)) 0 ≡ 0 = ap (λ m. carry m (pin (begun .pins)) 0) el in
       let only : (r : ℕ) → r < 2 ^ begun .len → r ≡ 0 = λ r lt. let e : 2 ^ begun .len ≡ 2 ^ 0 = ap (λ m. 2 ^ m) el in omega arith in
@@ -212,8 +219,11 @@ module _ {R : Type 0} (same : R → R → Bool) (card part : Table R) (strikes :
 
   -- among the wirings that begin with no pin are all
   pub found : (begun : PartialWiring) → begun .len ≡ 0 → (r : Option Wiring) → Within same card part strikes begun r → Found same card part strikes r
-  found begun el (Some x) h = (h .0, record {
-    usable = h .1;
-    first = λ v usable o. ⊎-elim (λ a. absurd (o .2 (sym (a (o .0) (o .1))))) (λ b. b) (h .3 v usable (λ i li. absurd (omega arith)));
-  })
+  found begun el (Some x) h = (
+    h .0,
+    record {
+      usable = h .1;
+      first = λ v usable o. ⊎-elim (λ a. absurd (o .2 (sym (a (o .0) (o .1))))) (λ b. b) (h .3 v usable (λ i li. absurd (omega arith)));
+    },
+  )
   found begun el None h = λ v usable. h v usable (λ i li. absurd (omega arith))

@@ -1,6 +1,7 @@
-mod strikes;
 mod deciding;
 mod placing;
 mod search;
-pub use strikes::Strikes;
+mod strikes;
+
 pub use search::first_wiring;
+pub use strikes::Strikes;

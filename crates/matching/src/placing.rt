@@ -3,10 +3,18 @@ ghost use Rattle.matching.specs.Begun.{Begun, Placing, Kept};
 use crate::deciding::settle;
 use crate::strikes::Strikes;
 use rows::RowKind;
-use tables::{PartialWiring, Table};
+use tables::PartialWiring;
+use tables::Table;
 
 // Gives the next input a pin, if the pin is free, the pair is not struck and no row that this decides differs.
-pub fn place<R: RowKind>(card: &Table<R>, part: &Table<R>, strikes: &Strikes, begun: &PartialWiring, pin: u8, carried: &mut [u16; 1024]) -> Option<PartialWiring>
+pub fn place<R: RowKind>(
+    card: &Table<R>,
+    part: &Table<R>,
+    strikes: &Strikes,
+    begun: &PartialWiring,
+    pin: u8,
+    carried: &mut [u16; 1024],
+) -> Option<PartialWiring>
     requires open { ⌜ now begun .len < now begun .inputs ⌝ }
     requires begun { ⌜ Begun (R·RowKind .same) (now card) (now part) (now strikes .struck) (now begun) (now carried) ⌝ }
     ensures answer { λ r. ⌜ Placing (R·RowKind .same) (now (card .entry)) (now (part .entry)) (now (strikes .entry) .struck) (now (begun .entry)) pin r (now (carried .exit)) ⌝ }

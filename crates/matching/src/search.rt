@@ -4,10 +4,19 @@ ghost use Rattle.matching.specs.Begun.{Begun, Within, Kept};
 use crate::placing::place;
 use crate::strikes::Strikes;
 use rows::RowKind;
-use tables::{total_weight, PartialWiring, Table, Wiring};
+use tables::PartialWiring;
+use tables::Table;
+use tables::Wiring;
+use tables::total_weight;
 
 // The first usable wiring among those that begin so, pins rising.
-fn extend<R: RowKind>(card: &Table<R>, part: &Table<R>, strikes: &Strikes, begun: &PartialWiring, carried: &mut [u16; 1024]) -> Option<Wiring>
+fn extend<R: RowKind>(
+    card: &Table<R>,
+    part: &Table<R>,
+    strikes: &Strikes,
+    begun: &PartialWiring,
+    carried: &mut [u16; 1024],
+) -> Option<Wiring>
     requires { ⌜ Begun (R·RowKind .same) (now card) (now part) (now strikes .struck) (now begun) (now carried) ⌝ }
     ensures answer { λ r. ⌜ Within (R·RowKind .same) (now (card .entry)) (now (part .entry)) (now (strikes .entry) .struck) (now (begun .entry)) r ⌝ }
     ensures kept { λ _. ⌜ Kept (2 ^ now (begun .entry) .len) (now (carried .entry)) (now (carried .exit)) ⌝ }
@@ -26,7 +35,11 @@ fn extend<R: RowKind>(card: &Table<R>, part: &Table<R>, strikes: &Strikes, begun
 }
 
 // The first wiring in dictionary order under which card and part agree and which uses no struck pair.
-pub fn first_wiring<R: RowKind>(card: &Table<R>, part: &Table<R>, strikes: &Strikes) -> Option<Wiring>
+pub fn first_wiring<R: RowKind>(
+    card: &Table<R>,
+    part: &Table<R>,
+    strikes: &Strikes,
+) -> Option<Wiring>
     ensures { λ r. ⌜ Found (R·RowKind .same) (now (card .entry)) (now (part .entry)) (now (strikes .entry) .struck) r ⌝ }
 {
     if card.inputs != part.inputs {

@@ -16,7 +16,9 @@ impl Strikes {
     pub fn none() -> Strikes
         ensures { λ r. ⌜ ((i p : ℕ) → struck (r .struck) i p ≡ false) ⌝ }
     {
-        Strikes { struck: [[false; 10]; 10] }
+        Strikes {
+            struck: [[false; 10]; 10],
+        }
     }
 
     // Strikes a pair. There is none where the input or the pin is ten or more.

@@ -1,2 +1,7 @@
 mod refusal;
-pub use refusal::{Refusal, RefusalDebug, RefusalDisplay, RefusalError, RefusalPartialEq};
+
+pub use refusal::Refusal;
+pub use refusal::RefusalDebug;
+pub use refusal::RefusalDisplay;
+pub use refusal::RefusalError;
+pub use refusal::RefusalPartialEq;

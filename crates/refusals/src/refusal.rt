@@ -30,7 +30,10 @@ pub impl fmt::Display for Refusal as RefusalDisplay {
         match *self {
             Refusal::TooManyInputs => write!(f, "a table has at most ten inputs"),
             Refusal::WrongRowCount => write!(f, "a table of n inputs has 2^n rows"),
-            Refusal::DriveOutOfRange => write!(f, "a drive has a direction from 0 to 2 and a hold from 0 to 99"),
+            Refusal::DriveOutOfRange => write!(
+                f,
+                "a drive has a direction from 0 to 2 and a hold from 0 to 99"
+            ),
             Refusal::NotAWiring => write!(f, "a wiring names each pin below n once"),
         }
     }

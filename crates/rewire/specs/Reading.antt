@@ -1,8 +1,9 @@
 use mathlib.Core.Path.{_≡_}
 use mathlib.Core.List.{List, map}
-use mathlib.Core.Logic.{_⊎_}
 use Prim.Native.Nat.{ℕ}
 use Rattle.std.specs.Of.Vec.{vec-items}
+use Rattle.std.specs.declared.option.Option.{Option}
+use Rattle.std.specs.declared.option.Option.the-variants.{Some, None}
 use Rattle.std.specs.declared.result.Result.{Result}
 use Rattle.std.specs.declared.result.Result.the-variants.{Ok, Err}
 use Rattle.std.specs.declared.vec.Vec.{Vec}
@@ -17,6 +18,10 @@ use Rattle.rewire.specs.declared.failure.Failure.the-variants.{Usage, NotRows,
 abbrev pub digit : OnOff → ℕ
 digit Off = 48
 digit On = 49
+
+abbrev pub IsRow : ℕ → Option OnOff → Type 0
+IsRow byte (Some row) = digit row ≡ byte
+IsRow byte None = (row : OnOff) → digit row ≡ byte → ⊥
 
 abbrev pub ReadError : Side → List ℕ → Failure → Type 0
 ReadError side text Usage = ⊥

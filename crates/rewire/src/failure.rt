@@ -1,5 +1,10 @@
-use refusals::{Refusal, RefusalDebug, RefusalDisplay};
-use std::alloc::{AllocError, Refused};
+ghost use mathlib.Core.Path.{_≡_};
+ghost use Rattle.rewire.specs.declared.failure.Failure.the-variants.{Memory};
+use refusals::Refusal;
+use refusals::RefusalDebug;
+use refusals::RefusalDisplay;
+use std::alloc::AllocError;
+use std::alloc::Refused;
 use std::fmt;
 use std::io;
 
@@ -26,6 +31,8 @@ pub impl From<AllocError> for Failure as FailureFromAlloc {
 }
 
 pub impl<T: Drop> From<Refused<T>> for Failure as FailureFromRefused {
+    ghost converts = { λ _ r. r ≡ Memory };
+
     fn from(_refused: Refused<T>) -> Failure {
         Failure::Memory
     }

@@ -1,12 +1,25 @@
+ghost use mathlib.Core.Path.{_≡_};
+ghost use Prim.Native.Nat.{_^_, _≤_};
+ghost use lib.ListN.{length};
+ghost use Rattle.std.specs.Vec.{made};
+
 mod failure;
 mod reading;
 
-use failure::{Failure, FailureDisplay, FailureFromAlloc, FailureFromIo, Side};
-use matching::{first_wiring, Strikes};
-use reading::{inputs_for, rows_from};
-use rows::{OnOff, OnOffRow};
+use failure::Failure;
+use failure::FailureDisplay;
+use failure::FailureFromAlloc;
+use failure::FailureFromIo;
+use failure::Side;
+use matching::Strikes;
+use matching::first_wiring;
+use reading::inputs_for;
+use reading::rows_from;
+use rows::OnOff;
+use rows::OnOffRow;
 use std::env;
-use tables::{Table, Wiring};
+use tables::Table;
+use tables::Wiring;
 
 const USAGE: &str = "usage: rewire CARD PART
 
@@ -16,13 +29,6 @@ CARD and PART are the rows of two truth tables, as digits 0 and 1, row 0 first.
 In row r, input i has the value of bit i of r, so a table of n inputs has 2^n rows; n is at most 10.
 
 example: rewire 00110101 00011011";
-
-fn table_of<'a>(side: Side, rows: &'a [OnOff]) -> Result<Table<'a, OnOff>, Failure> {
-    match Table::new(inputs_for(rows.len()), rows) {
-        Ok(table) => Ok(table),
-        Err(refusal) => Err(Failure::Refused(side, refusal)),
-    }
-}
 
 fn show(rt: &LibcRuntime, found: Option<Wiring>) -> Result<(), Failure> {
     let Some(wiring) = found else {
@@ -36,26 +42,51 @@ fn show(rt: &LibcRuntime, found: Option<Wiring>) -> Result<(), Failure> {
     Ok(())
 }
 
+// The number of inputs of a table with these rows.
+fn sized(side: Side, rows: &[OnOff]) -> Result<usize, Failure>
+    ensures { λ r. ⌜ made r (λ n. (n ≤ 10) × (length (now (rows .entry)) ≡ 2 ^ n)) ⌝ }
+{
+    let inputs = inputs_for(rows.len());
+    match Table::check(inputs, rows) {
+        Ok(()) => Ok(inputs),
+        Err(refusal) => Err(Failure::Refused(side, refusal)),
+    }
+}
+
 fn rewire(rt: &LibcRuntime, card: &str, part: &str) -> Result<(), Failure> {
     let card_rows = rows_from(rt.alloc(), Side::Card, card)?;
     let part_rows = rows_from(rt.alloc(), Side::Part, part)?;
-    let card = table_of(Side::Card, &card_rows)?;
-    let part = table_of(Side::Part, &part_rows)?;
-    println!(rt, "card: {} inputs, {} rows", card.inputs(), card.rows().len())?;
-    println!(rt, "part: {} inputs, {} rows", part.inputs(), part.rows().len())?;
+    let card = card_rows.as_slice();
+    let part = part_rows.as_slice();
+    let card = Table {
+        inputs: sized(Side::Card, card)?,
+        rows: card,
+    };
+    let part = Table {
+        inputs: sized(Side::Part, part)?,
+        rows: part,
+    };
+    println!(rt, "card: {} inputs, {} rows", card.inputs, card.rows.len())?;
+    println!(rt, "part: {} inputs, {} rows", part.inputs, part.rows.len())?;
     show(rt, first_wiring(&card, &part, &Strikes::none()))
 }
 
 fn run(rt: &LibcRuntime) -> Result<(), Failure> {
     let mut args = env::args(rt)?.skip(1);
-    match (args.next(), args.next(), args.next()) {
-        (Some(card), Some(part), None) => rewire(rt, &card, &part),
-        (Some(help), None, None) if help == "--help" => {
+    let Some(first) = args.next() else {
+        return Err(Failure::Usage);
+    };
+    let Some(second) = args.next() else {
+        if first == "--help" {
             println!(rt, "{USAGE}")?;
-            Ok(())
+            return Ok(());
         }
-        _ => Err(Failure::Usage),
+        return Err(Failure::Usage);
+    };
+    if args.next().is_some() {
+        return Err(Failure::Usage);
     }
+    rewire(rt, &first, &second)
 }
 
 fn main(rt: LibcRuntime) -> Result<(), Failure> {

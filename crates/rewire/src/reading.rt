@@ -1,24 +1,31 @@
-ghost use mathlib.Core.Path.{_≡_};
-ghost use mathlib.Core.List.{List, map};
 ghost use Prim.Native.Nat.{ℕ, _^_, _<_, _≤_};
-ghost use Rattle.std.specs.Of.Vec.{vec-items};
-ghost use Rattle.std.specs.Results.{Cases};
-ghost use Rattle.rewire.specs.Reading.{Read};
-use crate::failure::{Failure, FailureFromRefused, Side};
+ghost use Rattle.rewire.specs.Reading.{IsRow, Read};
+use crate::failure::Failure;
+use crate::failure::FailureFromRefused;
+use crate::failure::Side;
 use rows::OnOff;
 use std::alloc::Global;
+
+fn row_of(byte: u8) -> Option<OnOff>
+    ensures { λ r. ⌜ IsRow byte r ⌝ }
+{
+    match byte {
+        b'0' => Some(OnOff::Off),
+        b'1' => Some(OnOff::On),
+        _ => None,
+    }
+}
 
 // The rows that a text of digits 0 and 1 spells, row 0 first.
 pub fn rows_from(heap: Global, side: Side, text: &str) -> Result<Vec<OnOff>, Failure>
     ensures { λ r. ⌜ Read side (now (text .entry)) r ⌝ }
 {
     let mut rows = Vec::new(heap);
-    for digit in text.bytes() {
-        match digit {
-            b'0' => rows.push(OnOff::Off)?,
-            b'1' => rows.push(OnOff::On)?,
-            _ => return Err(Failure::NotRows(side)),
-        }
+    for byte in text.as_bytes() {
+        let Some(row) = row_of(*byte) else {
+            return Err(Failure::NotRows(side));
+        };
+        rows.push(row)?;
     }
     Ok(rows)
 }

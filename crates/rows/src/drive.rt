@@ -2,6 +2,7 @@ ghost use Prim.Native.Nat.{_≤_};
 
 mod making;
 mod row;
+
 pub use row::DriveRow;
 
 #[derive(Clone, Copy, PartialEq, Eq, Debug)]

@@ -67,17 +67,17 @@ at-most-one zero w f j m small apart = omega arith
 at-most-one (suc k) w f j m small apart =
     ⊎-elim
     (λ e.
-        let none : sumTo k (λ i. at (w i) (f i) j) ≡ sumTo k (λ _. 0) =
-            sum-ext k (λ i. at (w i) (f i) j) (λ _. 0) (λ i li. at-no (w i) (f i) j (λ same. let x : i ≡ k = apart i k (omega arith, omega arith, sym same ∙ e) in omega arith)) in
-        let z = sum-zero k in
-        let here = at-yes (w k) (f k) j e in
-        let s = small k (omega arith) in
-        let p : 2 ^ w k ≡ 2 ^ j = ap (λ y. 2 ^ y) (sym e) in
-        omega arith)
+    let none : sumTo k (λ i. at (w i) (f i) j) ≡ sumTo k (λ _. 0) =
+    sum-ext k (λ i. at (w i) (f i) j) (λ _. 0) (λ i li. at-no (w i) (f i) j (λ same. let x : i ≡ k = apart i k (omega arith, omega arith, sym same ∙ e) in omega arith)) in
+    let z = sum-zero k in
+    let here = at-yes (w k) (f k) j e in
+    let s = small k (omega arith) in
+    let p : 2 ^ w k ≡ 2 ^ j = ap (λ y. 2 ^ y) (sym e) in
+    omega arith)
     (λ ne.
-        let before = at-most-one k w f j m (λ i li. small i (omega arith)) (λ i l h. apart i l (let a = h .0 in omega arith, let a = h .1 in omega arith, h .2)) in
-        let here = at-no (w k) (f k) j ne in
-        omega arith)
+    let before = at-most-one k w f j m (λ i li. small i (omega arith)) (λ i l h. apart i l (let a = h .0 in omega arith, let a = h .1 in omega arith, h .2)) in
+    let here = at-no (w k) (f k) j ne in
+    omega arith)
     (cases-eq j (w k))
 
 pow-sum : (n : ℕ) → sumTo n (λ j. 2 ^ j) + 1 ≡ 2 ^ n
@@ -88,9 +88,9 @@ pub carry-lt : (n k : ℕ) (w : ℕ → ℕ) (r : ℕ) → Placed n k w → carr
 carry-lt n k w r h =
     let f : ℕ → ℕ = λ i. bit i r * 2 ^ w i in
     let spread : sumTo k f ≡ sumTo n (λ j. sumTo k (λ i. at (w i) (f i) j)) =
-        sum-ext k f (λ i. sumTo n (λ j. at (w i) (f i) j)) (λ i li. sym (sum-single n (w i) (f i) (h .0 i li))) ∙ sum-swap k n (λ i j. at (w i) (f i) j) in
+    sum-ext k f (λ i. sumTo n (λ j. at (w i) (f i) j)) (λ i li. sym (sum-single n (w i) (f i) (h .0 i li))) ∙ sum-swap k n (λ i j. at (w i) (f i) j) in
     let bound : sumTo n (λ j. sumTo k (λ i. at (w i) (f i) j)) ≤ sumTo n (λ j. 2 ^ j) =
-        sum-le n (λ j. sumTo k (λ i. at (w i) (f i) j)) (λ j. 2 ^ j) (λ j lj. at-most-one k w f j 0 (λ i li. let b = bit-lt i r in let le : bit i r ≤ 1 = omega arith in let m : bit i r * 2 ^ w i ≤ 1 * 2 ^ w i = mul-le (bit i r) (2 ^ w i) 1 (2 ^ w i) le (omega arith) in omega arith) (h .1)) in
+    sum-le n (λ j. sumTo k (λ i. at (w i) (f i) j)) (λ j. 2 ^ j) (λ j lj. at-most-one k w f j 0 (λ i li. let b = bit-lt i r in let le : bit i r ≤ 1 = omega arith in let m : bit i r * 2 ^ w i ≤ 1 * 2 ^ w i = mul-le (bit i r) (2 ^ w i) 1 (2 ^ w i) le (omega arith) in omega arith) (h .1)) in
     let p = pow-sum n in
     omega (arith, spread, bound, p)
 

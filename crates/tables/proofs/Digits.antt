@@ -29,7 +29,7 @@ module _ (b : ℕ → ℕ) (small : (j : ℕ) → b j < 2) where
   pub low-bit : (c x j d : ℕ) → bit j (c * 2 ^ (suc d + j) + x) ≡ bit j x
   low-bit c x j d =
       let e : c * 2 ^ (suc d + j) ≡ (c * 2 ^ d * 2) * 2 ^ j =
-          ap (λ y. c * y) (pow-add 2 (suc d) j ∙ ap (λ y. y * 2 ^ j) (pow-suc 2 d)) ∙ sym (mul-assoc c (2 ^ d * 2) (2 ^ j)) ∙ ap (λ y. y * 2 ^ j) (sym (mul-assoc c (2 ^ d) 2)) in
+      ap (λ y. c * y) (pow-add 2 (suc d) j ∙ ap (λ y. y * 2 ^ j) (pow-suc 2 d)) ∙ sym (mul-assoc c (2 ^ d * 2) (2 ^ j)) ∙ ap (λ y. y * 2 ^ j) (sym (mul-assoc c (2 ^ d) 2)) in
       ap (λ y. (y + x) / 2 ^ j % 2) e ∙ ap (λ y. y % 2) (mul-add-div-right (pow-pos j) (c * 2 ^ d * 2) x) ∙ mul-add-mod-self-right (c * 2 ^ d) 2 (x / 2 ^ j)
 
   pub bit-number : (n j : ℕ) → j < n → bit j (number n b) ≡ b j
@@ -38,8 +38,8 @@ module _ (b : ℕ → ℕ) (small : (j : ℕ) → b j < 2) where
       ⊎-elim
       (λ e. ap (λ i. bit i (number (suc n) b)) e ∙ ap (λ y. y / 2 ^ n % 2) (add-comm (number n b) (b n * 2 ^ n)) ∙ ap (λ y. y % 2) (digits-div (b n) (number-lt n)) ∙ mod-eq-of-lt (small n) ∙ ap b (sym e))
       (λ ne.
-          let split : n ≡ suc (n - suc j) + j = omega arith in
-          ap (λ y. bit j y) (add-comm (number n b) (b n * 2 ^ n)) ∙ ap (λ y. bit j (b n * 2 ^ y + number n b)) split ∙ low-bit (b n) (number n b) j (n - suc j) ∙ bit-number n j (omega arith))
+      let split : n ≡ suc (n - suc j) + j = omega arith in
+      ap (λ y. bit j y) (add-comm (number n b) (b n * 2 ^ n)) ∙ ap (λ y. bit j (b n * 2 ^ y + number n b)) split ∙ low-bit (b n) (number n b) j (n - suc j) ∙ bit-number n j (omega arith))
       (cases-eq j n)
 
 pub number-ext : (n : ℕ) (a b : ℕ → ℕ) → ((j : ℕ) → j < n → a j ≡ b j) → number n a ≡ number n b

@@ -27,15 +27,15 @@ module _ (n k p : ℕ) (w u : ℕ → ℕ) (kept : Alike k u w) (new : u k ≡ p
         let same : u i ≡ u j = t .2 in
         ⊎-elim
         (λ l. ⊎-elim
-          (λ m. h .1 i j (l, m, sym (kept i l) ∙ same ∙ kept j m))
-          (λ g. let e : j ≡ k = omega arith in absurd (free i l (sym (kept i l) ∙ same ∙ ap u e ∙ new)))
-          (cases-lt j k))
+        (λ m. h .1 i j (l, m, sym (kept i l) ∙ same ∙ kept j m))
+        (λ g. let e : j ≡ k = omega arith in absurd (free i l (sym (kept i l) ∙ same ∙ ap u e ∙ new)))
+        (cases-lt j k))
         (λ g. let e : i ≡ k = omega arith in ⊎-elim
-          (λ m. absurd (free j m (sym (kept j m) ∙ sym same ∙ ap u e ∙ new)))
-          (λ f. omega arith)
-          (cases-lt j k))
+        (λ m. absurd (free j m (sym (kept j m) ∙ sym same ∙ ap u e ∙ new)))
+        (λ f. omega arith)
+        (cases-lt j k))
         (cases-lt i k)),
-    )
+  )
 
   -- a pin that the first k inputs leave free is one that the next may have
   pub free-pin : Placed n (k + 1) u → (i : ℕ) → i < k → w i ≡ p → ⊥
@@ -45,9 +45,9 @@ module _ (n k p : ℕ) (w u : ℕ → ℕ) (kept : Alike k u w) (new : u k ≡ p
     pub marked-more : ((i : ℕ) → i < k → getD used (w i) false ≡ true) → (i : ℕ) → i < k + 1 → getD (set used p true) (u i) false ≡ true
     marked-more marked i li = ⊎-elim
         (λ l. ap (λ y. getD (set used p true) y false) (kept i l) ∙ ⊎-elim
-          (λ e. ap (λ y. getD (set used p true) y false) e ∙ getD-set-same used p true false wide)
-          (λ ne. getD-set-other used p (w i) true false ne ∙ marked i l)
-          (cases-eq (w i) p))
+        (λ e. ap (λ y. getD (set used p true) y false) e ∙ getD-set-same used p true false wide)
+        (λ ne. getD-set-other used p (w i) true false ne ∙ marked i l)
+        (cases-eq (w i) p))
         (λ g. let e : i ≡ k = omega arith in ap (λ y. getD (set used p true) y false) (ap u e ∙ new) ∙ getD-set-same used p true false wide)
         (cases-lt i k)
 

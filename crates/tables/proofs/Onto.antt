@@ -28,8 +28,8 @@ less-wires n w h = (
       let here : w i < suc n = h .0 i (omega arith) in
       ⊎-elim
       (λ e.
-          let off : w n ≡ n → ⊥ = λ same. let x : i ≡ n = apart (suc n) w h i n (omega arith) (omega arith) (e ∙ sym same) in omega arith in
-          let val = less-yes n w i e in ⊎-elim (λ l. omega arith) (λ g. absurd (off (omega arith))) (cases-lt (w n) n))
+      let off : w n ≡ n → ⊥ = λ same. let x : i ≡ n = apart (suc n) w h i n (omega arith) (omega arith) (e ∙ sym same) in omega arith in
+      let val = less-yes n w i e in ⊎-elim (λ l. omega arith) (λ g. absurd (off (omega arith))) (cases-lt (w n) n))
       (λ ne. let val = less-no n w i ne in ⊎-elim (λ l. omega arith) (λ g. absurd (ne (omega arith))) (cases-lt (w i) n))
       (cases-eq (w i) n)),
   (λ i j h3.
@@ -38,15 +38,15 @@ less-wires n w h = (
       let same : less n w i ≡ less n w j = h3 .2 in
       ⊎-elim
       (λ ei. ⊎-elim
-        (λ ej. apart (suc n) w h i j (omega arith) (omega arith) (ei ∙ sym ej))
-        (λ nj. let x : n ≡ j = apart (suc n) w h n j (omega arith) (omega arith) (sym (less-yes n w i ei) ∙ same ∙ less-no n w j nj) in absurd (omega arith))
-        (cases-eq (w j) n))
+      (λ ej. apart (suc n) w h i j (omega arith) (omega arith) (ei ∙ sym ej))
+      (λ nj. let x : n ≡ j = apart (suc n) w h n j (omega arith) (omega arith) (sym (less-yes n w i ei) ∙ same ∙ less-no n w j nj) in absurd (omega arith))
+      (cases-eq (w j) n))
       (λ ni. ⊎-elim
-        (λ ej. let x : i ≡ n = apart (suc n) w h i n (omega arith) (omega arith) (sym (less-no n w i ni) ∙ same ∙ less-yes n w j ej) in absurd (omega arith))
-        (λ nj. apart (suc n) w h i j (omega arith) (omega arith) (sym (less-no n w i ni) ∙ same ∙ less-no n w j nj))
-        (cases-eq (w j) n))
+      (λ ej. let x : i ≡ n = apart (suc n) w h i n (omega arith) (omega arith) (sym (less-no n w i ni) ∙ same ∙ less-yes n w j ej) in absurd (omega arith))
+      (λ nj. apart (suc n) w h i j (omega arith) (omega arith) (sym (less-no n w i ni) ∙ same ∙ less-no n w j nj))
+      (cases-eq (w j) n))
       (cases-eq (w i) n)),
-  )
+)
 
 -- every pin is used
 pub onto : (n : ℕ) (w : ℕ → ℕ) → Wires n w → (j : ℕ) → j < n → (i : ℕ) × (i < n) × (w i ≡ j)
@@ -55,23 +55,23 @@ onto (suc n) w h j lt =
     ⊎-elim
     (λ e. (n, omega arith, sym e))
     (λ ne.
-        ⊎-elim
-        (λ top.
-            let low : w n < n = (let a : w n < suc n = h .0 n (omega arith) in ⊎-elim (λ l. l) (λ g. absurd (ne (omega arith))) (cases-lt (w n) n)) in
-            let r = onto n (less n w) (less-wires n w h) (w n) low in
-            let lr = r .1 in
-            ⊎-elim
-            (λ e. (r .0, omega arith, e ∙ sym top))
-            (λ no′. let x : r .0 ≡ n = apart (suc n) w h (r .0) n (omega arith) (omega arith) (sym (less-no n w (r .0) no′) ∙ r .2) in absurd (omega arith))
-            (cases-eq (w (r .0)) n))
-        (λ below.
-            let r = onto n (less n w) (less-wires n w h) j (omega arith) in
-            let lr = r .1 in
-            ⊎-elim
-            (λ e. absurd (ne (sym (sym (less-yes n w (r .0) e) ∙ r .2))))
-            (λ no′. (r .0, omega arith, sym (less-no n w (r .0) no′) ∙ r .2))
-            (cases-eq (w (r .0)) n))
-        (cases-eq j n))
+    ⊎-elim
+    (λ top.
+    let low : w n < n = (let a : w n < suc n = h .0 n (omega arith) in ⊎-elim (λ l. l) (λ g. absurd (ne (omega arith))) (cases-lt (w n) n)) in
+    let r = onto n (less n w) (less-wires n w h) (w n) low in
+    let lr = r .1 in
+    ⊎-elim
+    (λ e. (r .0, omega arith, e ∙ sym top))
+    (λ no′. let x : r .0 ≡ n = apart (suc n) w h (r .0) n (omega arith) (omega arith) (sym (less-no n w (r .0) no′) ∙ r .2) in absurd (omega arith))
+    (cases-eq (w (r .0)) n))
+    (λ below.
+    let r = onto n (less n w) (less-wires n w h) j (omega arith) in
+    let lr = r .1 in
+    ⊎-elim
+    (λ e. absurd (ne (sym (sym (less-yes n w (r .0) e) ∙ r .2))))
+    (λ no′. (r .0, omega arith, sym (less-no n w (r .0) no′) ∙ r .2))
+    (cases-eq (w (r .0)) n))
+    (cases-eq j n))
     (cases-eq j (w n))
 
 module _ (n : ℕ) (w : ℕ → ℕ) (h : Wires n w) where
@@ -102,10 +102,13 @@ module _ (n : ℕ) (w : ℕ → ℕ) (h : Wires n w) where
 -- what takes each pin back to its input is a wiring too, and the inverse
 module _ (n : ℕ) (w v : ℕ → ℕ) (h : Wires n w) (turned : (i : ℕ) → i < n → v (w i) ≡ i) where
   pub turned-inverse : Inverse n w v
-  turned-inverse = (turned, λ j lj.
-    let o = onto n w h j lj in
-    let e : v j ≡ o .0 = ap v (sym (o .2)) ∙ turned (o .0) (o .1) in
-    (let lo = o .1 in omega arith, ap w e ∙ o .2))
+  turned-inverse = (
+    turned,
+    λ j lj.
+        let o = onto n w h j lj in
+        let e : v j ≡ o .0 = ap v (sym (o .2)) ∙ turned (o .0) (o .1) in
+        (let lo = o .1 in omega arith, ap w e ∙ o .2),
+  )
 
   pub turned-wires : Wires n v
   turned-wires = ((λ j lj. turned-inverse .1 j lj .0), λ i j t. sym (turned-inverse .1 i (t .0) .1) ∙ ap w (t .2) ∙ turned-inverse .1 j (t .1) .1)

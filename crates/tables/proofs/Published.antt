@@ -49,7 +49,7 @@ module _ {R : Type 0} (same : R → R → Bool) (n : ℕ) (w π : ℕ → ℕ) (
         let x : ℕ → Bool = λ i. eqb (bit i r) 1 in
         let er : named n x ≡ r = bits-ext n (named n x) r (named-lt n x) lr (λ j lj. bit-named n x j lj ∙ digit-eqb (bit j r) (bit-lt j r)) in
         let eq : named n (λ j. x (π j)) ≡ q = bits-ext n (named n (λ j. x (π j))) q (named-lt n (λ j. x (π j))) lq (λ j lj.
-            bit-named n (λ j. x (π j)) j lj ∙ digit-eqb (bit (π j) r) (bit-lt (π j) r) ∙ sym (c (π j) (inv .1 j lj .0)) ∙ ap (λ y. bit y q) (inv .1 j lj .1)) in
+        bit-named n (λ j. x (π j)) j lj ∙ digit-eqb (bit (π j) r) (bit-lt (π j) r) ∙ sym (c (π j) (inv .1 j lj .0)) ∙ ap (λ y. bit y q) (inv .1 j lj .1)) in
         ap (λ y. same (getD card y d) (getD part q d)) (sym er) ∙ ap (λ y. same (getD card (named n x) d) (getD part y d)) (sym eq) ∙ e x d;
   }
 

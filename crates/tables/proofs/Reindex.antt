@@ -41,7 +41,7 @@ module _ (n : ℕ) (w : ℕ → ℕ) (h : Wires n w) where
 
   pub row-there-back : (q : ℕ) → q < 2 ^ n → row-there (row-back q) ≡ q
   row-there-back q lq = bits-ext n (row-there (row-back q)) q (there-lt (row-back q)) lq (λ j lt.
-    bit-there (row-back q) j lt ∙ bit-back q (back n w h j) (back-into n w h j lt) ∙ ap (λ x. bit x q) (there-back n w h j lt))
+      bit-there (row-back q) j lt ∙ bit-back q (back n w h j) (back-into n w h j lt) ∙ ap (λ x. bit x q) (there-back n w h j lt))
 
   -- a sum over the rows, carried over
   pub sum-rows : (f g : ℕ → ℕ) → ((r : ℕ) → r < 2 ^ n → f r ≡ g (row-there r)) → sumTo (2 ^ n) f ≡ sumTo (2 ^ n) g

@@ -65,9 +65,9 @@ sum-reindex n there back f g to from bt tb same =
     sum-ext n f (λ r. sumTo n (at (there r) (f r))) (λ r lt. sym (sum-single n (there r) (f r) (to r lt)))
     ∙ sum-swap n n (λ r q. at (there r) (f r) q)
     ∙ sum-ext n (λ q. sumTo n (λ r. at (there r) (f r) q)) g (λ q lq.
-        sum-ext n (λ r. at (there r) (f r) q) (at (back q) (g q)) (λ r lr.
-          ⊎-elim
-          (λ e. at-yes (there r) (f r) q e ∙ same r lr ∙ ap g (sym e) ∙ sym (at-yes (back q) (g q) r (sym (ap back e ∙ bt r lr))))
-          (λ ne. at-no (there r) (f r) q ne ∙ sym (at-no (back q) (g q) r (λ e. ne (sym (ap there e ∙ tb q lq)))))
-          (cases-eq q (there r)))
-        ∙ sum-single n (back q) (g q) (from q lq))
+    sum-ext n (λ r. at (there r) (f r) q) (at (back q) (g q)) (λ r lr.
+    ⊎-elim
+    (λ e. at-yes (there r) (f r) q e ∙ same r lr ∙ ap g (sym e) ∙ sym (at-yes (back q) (g q) r (sym (ap back e ∙ bt r lr))))
+    (λ ne. at-no (there r) (f r) q ne ∙ sym (at-no (back q) (g q) r (λ e. ne (sym (ap there e ∙ tb q lq)))))
+    (cases-eq q (there r)))
+    ∙ sum-single n (back q) (g q) (from q lq))

@@ -3,12 +3,14 @@ ghost use Prim.Native.Nat.{ℕ, _<_, _≤_};
 ghost use lib.ListN.{take};
 ghost use Rattle.tables.specs.Wirings.{pin, Apart};
 
-mod making;
 mod carry;
-mod inverse;
-mod order;
 mod equality;
-pub use equality::{WiringEq, WiringPartialEq};
+mod inverse;
+mod making;
+mod order;
+
+pub use equality::WiringEq;
+pub use equality::WiringPartialEq;
 
 // A wiring for n inputs: the pin of each card input, below n, and no pin twice. The places past n hold 0, so that
 // two wirings are equal when they give each input the same pin.

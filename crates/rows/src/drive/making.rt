@@ -1,6 +1,7 @@
 ghost use Rattle.refusals.specs.Due.{Outcome};
 ghost use Rattle.rows.specs.Drives.{due, Is};
-use crate::drive::{Direction, Drive};
+use crate::drive::Direction;
+use crate::drive::Drive;
 use refusals::Refusal;
 
 impl Drive {

@@ -1,5 +1,6 @@
 ghost use Rattle.rows.specs.Kinds.{drive-same, drive-weight};
-use crate::drive::{Direction, Drive};
+use crate::drive::Direction;
+use crate::drive::Drive;
 use crate::row_kind::RowKind;
 
 pub impl RowKind for Drive as DriveRow {

@@ -12,7 +12,12 @@ impl PartialWiring {
         if inputs > 10 {
             return Err(Refusal::TooManyInputs);
         }
-        Ok(PartialWiring { inputs, len: 0, pins: [0; 10], used: [false; 10] })
+        Ok(PartialWiring {
+            inputs,
+            len: 0,
+            pins: [0; 10],
+            used: [false; 10],
+        })
     }
 
     // With a pin for the next input, unless that makes no part of a wiring.
@@ -37,6 +42,9 @@ impl PartialWiring {
         if self.len < self.inputs {
             return None;
         }
-        Some(Wiring { inputs: self.inputs, pins: self.pins })
+        Some(Wiring {
+            inputs: self.inputs,
+            pins: self.pins,
+        })
     }
 }

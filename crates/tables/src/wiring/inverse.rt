@@ -12,6 +12,9 @@ impl Wiring {
         for i in 0..self.inputs {
             pins[self.pins[i] as usize] = i as u8;
         }
-        Wiring { inputs: self.inputs, pins }
+        Wiring {
+            inputs: self.inputs,
+            pins,
+        }
     }
 }

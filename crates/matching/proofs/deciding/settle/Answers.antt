@@ -28,9 +28,8 @@ loop-r-again g c =
     let b = worth-is (c .args .pin) (c .pre .1 .0) in
     let lt = c .loop-r-test .taken in
     let in-part = c .pre .1 .1 .1 .1 (c .loop-r .r) (omega arith) in
-    let was = c .loop-r .inv .0 (c .loop-r .r) lt in
-    (
+    let was = c .loop-r .inv .0 (c .loop-r .r) lt in (
       kept-more same card part half worth (c .args .carried .now) (c .loop-r .carried) (c .loop-r .r) _ (c .loop-r .inv .0),
       settled-more same card part half worth (c .args .carried .now) (c .loop-r .carried) (c .loop-r .r) (c .index-card-half .result) (c .index-part-q .result)
-        (c .loop-r .inv .0) (c .loop-r .inv .1) lt (omega arith) (omega arith) (c .index-card-half .is) (omega arith) (c .index-part-q .is) (sym (c .if-not-is-same .ensures tt)),
+          (c .loop-r .inv .0) (c .loop-r .inv .1) lt (omega arith) (omega arith) (c .index-card-half .is) (omega arith) (c .index-part-q .is) (sym (c .if-not-is-same .ensures tt)),
     )

@@ -28,9 +28,19 @@ settle-requires g c κs =
     let two = pow-two (begun .len) in
     let lc : length (card .rows .now) ≡ 2 ^ begun .inputs = card-whole same card part strikes begun (c .args .carried .now) (c .pre .begun) in
     let lp : length (part .rows .now) ≡ 2 ^ begun .inputs = part-whole same card part strikes begun (c .args .carried .now) (c .pre .begun) in
-    let half : 2 ^ c .len-input .result ≡ 2 ^ begun .len = ap (λ k. 2 ^ k) el in
-    (omega (arith, el), (omega (arith, low, few), (omega (arith, half, two, up, lc), (omega (arith, lp, top),
-      λ r lr. in-part same card part strikes begun (c .args .carried .now) (c .pre .begun) (c .args .pin) longer grown r (omega (arith, lr, half))))))
+    let half : 2 ^ c .len-input .result ≡ 2 ^ begun .len = ap (λ k. 2 ^ k) el in (
+      omega (arith, el),
+      (
+        omega (arith, low, few),
+        (
+          omega (arith, half, two, up, lc),
+          (
+            omega (arith, lp, top),
+            λ r lr. in-part same card part strikes begun (c .args .carried .now) (c .pre .begun) (c .args .pin) longer grown r (omega (arith, lr, half)),
+          ),
+        ),
+      ),
+    )
 
 pub returns-then-not-settle : need.returns-then-not-settle
 returns-then-not-settle g c =
@@ -60,9 +70,12 @@ returns g c =
     let kept : Kept (2 ^ begun .len) carried now = λ r lr. c .settle .ensures .kept r (omega (arith, half)) in
     let on : Settled same (card .rows .now) (part .rows .now) (2 ^ c .len-input .result) (2 ^ c .len-input .result) (2 ^ c .args .pin) carried now = c .settle .ensures .settled (c .if-not-settle .left) in
     let free : struck (c .args .strikes .now .struck) (begun .len) (c .args .pin) ≡ false =
-        ap (λ k. struck (c .args .strikes .now .struck) k (c .args .pin)) (sym (c .len-input .ensures)) ∙ sym (c .is-struck .ensures) ∙ c .if-is-struck .left in
+    ap (λ k. struck (c .args .strikes .now .struck) k (c .args .pin)) (sym (c .len-input .ensures)) ∙ sym (c .is-struck .ensures) ∙ c .if-is-struck .left in
     record {
-      answer = (grown, begun-more same card part (c .args .strikes .now .struck) begun carried (c .pre .begun) (c .args .pin) (c .in-Continue-longer .longer) grown free now kept
-          (subst (λ h. Settled same (card .rows .now) (part .rows .now) h h (2 ^ c .args .pin) carried now) half on));
+      answer = (
+        grown,
+        begun-more same card part (c .args .strikes .now .struck) begun carried (c .pre .begun) (c .args .pin) (c .in-Continue-longer .longer) grown free now kept
+            (subst (λ h. Settled same (card .rows .now) (part .rows .now) h h (2 ^ c .args .pin) carried now) half on),
+      );
       kept = kept;
     }

@@ -39,17 +39,15 @@ loop-pin-again g t c =
     let begun = c .args .begun .now in
     let pin = c .loop-pin .pin in
     elim (c .match-place .came) [
-      in-Some-place·in-rest-extend way ↦
-        let grown = way .in-Some-place .ensures tt .answer .0 in
-        (
-          (λ r lt. ap (λ l. getD l r 0) (way .carried-is) ∙ way .extend .ensures .kept r (wider (begun .len) (way .in-Some-place .longer .len) r (grown .1) lt) ∙ c .place .ensures .kept r lt ∙ c .loop-pin .inv .0 r lt),
-          past-more same card part strikes begun pin (c .loop-pin .inv .1) (none-on same card part strikes begun pin (way .in-Some-place .longer) grown (way .in-rest-extend .ensures tt .answer)),
-        )
-    | in-rest-place way ↦
-        (
-          (λ r lt. ap (λ l. getD l r 0) (way .carried-is) ∙ c .place .ensures .kept r lt ∙ c .loop-pin .inv .0 r lt),
-          past-more same card part strikes begun pin (c .loop-pin .inv .1) (way .in-rest-place .ensures tt .answer),
-        )
+      | in-Some-place·in-rest-extend way ↦
+          let grown = way .in-Some-place .ensures tt .answer .0 in (
+            (λ r lt. ap (λ l. getD l r 0) (way .carried-is) ∙ way .extend .ensures .kept r (wider (begun .len) (way .in-Some-place .longer .len) r (grown .1) lt) ∙ c .place .ensures .kept r lt ∙ c .loop-pin .inv .0 r lt),
+            past-more same card part strikes begun pin (c .loop-pin .inv .1) (none-on same card part strikes begun pin (way .in-Some-place .longer) grown (way .in-rest-extend .ensures tt .answer)),
+          )
+      | in-rest-place way ↦ (
+        (λ r lt. ap (λ l. getD l r 0) (way .carried-is) ∙ c .place .ensures .kept r lt ∙ c .loop-pin .inv .0 r lt),
+        past-more same card part strikes begun pin (c .loop-pin .inv .1) (way .in-rest-place .ensures tt .answer),
+      )
     ]
 
 pub returns : need.returns

@@ -23,7 +23,7 @@ returns-then-total-weight g c = λ w usable.
     let a = usable .agree in
     c .if-total-weight .taken
     (c .total-weight .ensures ∙ total-there (g .R·RowKind .same) weight (g .R·RowKind·met .alike) (card .inputs) (card .rows .now) (part .rows .now) w a
-     ∙ ap (λ k. weighed weight (part .rows .now) k) (sym (a .part-rows) ∙ part .whole) ∙ sym (c .total-weight-2 .ensures))
+    ∙ ap (λ k. weighed weight (part .rows .now) k) (sym (a .part-rows) ∙ part .whole) ∙ sym (c .total-weight-2 .ensures))
 
 pub returns-then-not-is-same : need.returns-then-not-is-same
 returns-then-not-is-same g c =
@@ -34,8 +34,8 @@ returns-then-not-is-same g c =
     let pp = pow-pos (part .inputs) in
     differs-first same card part (c .args .strikes .now .struck)
     (same-rows same (card .rows .now) (part .rows .now) 0 0 (c .index-card-0 .result) (c .index-part-0 .result) _ (omega (arith, pc, card .whole)) (omega (arith, pp, part .whole))
-      (c .index-card-0 .is) (c .index-part-0 .is)
-      (ap (λ x. same x (c .index-part-0 .result)) (c .index-card-0 .is) ∙ ap (λ y. same (getD (card .rows .now) 0 (c .index-card-0 .result)) y) (c .index-part-0 .is) ∙ sym (c .if-not-is-same .ensures tt)))
+    (c .index-card-0 .is) (c .index-part-0 .is)
+    (ap (λ x. same x (c .index-part-0 .result)) (c .index-card-0 .is) ∙ ap (λ y. same (getD (card .rows .now) 0 (c .index-card-0 .result)) y) (c .index-part-0 .is) ∙ sym (c .if-not-is-same .ensures tt)))
 
 pub returns : need.returns
 returns g c =

@@ -28,10 +28,10 @@ returns-then-card-inputs g c =
     let part = c .args .part .now in
     let x = c .args .wiring .now in
     refuse (g .R·RowKind .same) x (card .rows .now) (part .rows .now) (λ a.
-      elim (c .then-card-inputs .came) [
-        then-card-inputs·by·then-card-inputs way ↦ way .if-card-inputs .taken (same-inputs (card .inputs) (x .inputs) (sym (card .whole) ∙ a .card-rows) ∙ sym (c .inputs-inputs .ensures))
+    elim (c .then-card-inputs .came) [
+      | then-card-inputs·by·then-card-inputs way ↦ way .if-card-inputs .taken (same-inputs (card .inputs) (x .inputs) (sym (card .whole) ∙ a .card-rows) ∙ sym (c .inputs-inputs .ensures))
       | then-card-inputs·by·else-card-inputs·then-part-inputs way ↦ way .if-part-inputs .taken (same-inputs (part .inputs) (x .inputs) (sym (part .whole) ∙ a .part-rows) ∙ sym (c .inputs-inputs .ensures))
-      ])
+    ])
 
 pub returns-then-total-weight : need.returns-then-total-weight
 returns-then-total-weight g c =
@@ -40,10 +40,10 @@ returns-then-total-weight g c =
     let part = c .args .part .now in
     let x = c .args .wiring .now in
     refuse (g .R·RowKind .same) x (card .rows .now) (part .rows .now) (λ a.
-      c .if-total-weight .taken
-      (c .total-weight .ensures ∙ ap (λ k. weighed weight (card .rows .now) k) (sym (card .whole) ∙ a .card-rows)
-       ∙ total-there (g .R·RowKind .same) weight (g .R·RowKind·met .alike) (x .inputs) (card .rows .now) (part .rows .now) (pin (x .pins)) a
-       ∙ ap (λ k. weighed weight (part .rows .now) k) (sym (a .part-rows) ∙ part .whole) ∙ sym (c .total-weight-2 .ensures)))
+    c .if-total-weight .taken
+    (c .total-weight .ensures ∙ ap (λ k. weighed weight (card .rows .now) k) (sym (card .whole) ∙ a .card-rows)
+    ∙ total-there (g .R·RowKind .same) weight (g .R·RowKind·met .alike) (x .inputs) (card .rows .now) (part .rows .now) (pin (x .pins)) a
+    ∙ ap (λ k. weighed weight (part .rows .now) k) (sym (a .part-rows) ∙ part .whole) ∙ sym (c .total-weight-2 .ensures)))
 
 pub returns-then-not-is-same : need.returns-then-not-is-same
 returns-then-not-is-same g c =
@@ -56,12 +56,12 @@ returns-then-not-is-same g c =
     let q = c .carry-q .result in
     let d = c .row-item .result in
     refuse same x card part (λ a.
-      let within : r < length card = c .loop-r-test .taken in
-      let lq : q < length part = omega (arith, c .carry-q .ensures .within, a .part-rows) in
-      let eq : q ≡ carry (x .inputs) w r = carried-only (x .inputs) w (a .wires) r q (c .carry-q .ensures .within) (c .carry-q .ensures .carried) in
-      let off : same (getD card r d) (getD part q d) ≡ false =
-          same-rows same card part r q d (c .index-part-q .result) false within lq (c .row-item .is) (c .index-part-q .is) (ap (λ y. same (c .row-item .result) y) (c .index-part-q .is) ∙ sym (c .if-not-is-same .ensures tt)) d in
-      both-ways _ off (ap (λ y. same (getD card r d) (getD part y d)) eq ∙ agree-row same (x .inputs) card part w a r d (omega (arith, within, a .card-rows))))
+    let within : r < length card = c .loop-r-test .taken in
+    let lq : q < length part = omega (arith, c .carry-q .ensures .within, a .part-rows) in
+    let eq : q ≡ carry (x .inputs) w r = carried-only (x .inputs) w (a .wires) r q (c .carry-q .ensures .within) (c .carry-q .ensures .carried) in
+    let off : same (getD card r d) (getD part q d) ≡ false =
+    same-rows same card part r q d (c .index-part-q .result) false within lq (c .row-item .is) (c .index-part-q .is) (ap (λ y. same (c .row-item .result) y) (c .index-part-q .is) ∙ sym (c .if-not-is-same .ensures tt)) d in
+    both-ways _ off (ap (λ y. same (getD card r d) (getD part y d)) eq ∙ agree-row same (x .inputs) card part w a r d (omega (arith, within, a .card-rows))))
 
 pub loop-r-again : need.loop-r-again
 loop-r-again g c = λ k d lk.
@@ -78,9 +78,9 @@ loop-r-again g c = λ k d lk.
     ⊎-elim
     (λ below. c .loop-r .inv k d below)
     (λ above.
-        let here : k ≡ r = omega arith in
-        ap (λ i. same (getD card i d) (getD part (carry (x .inputs) w i) d)) here ∙ ap (λ y. same (getD card r d) (getD part y d)) (sym eq)
-        ∙ same-rows same card part r q (c .row-item .result) (c .index-part-q .result) true (c .loop-r-test .taken) lq (c .row-item .is) (c .index-part-q .is) (ap (λ y. same (c .row-item .result) y) (c .index-part-q .is) ∙ sym (c .if-not-is-same .ensures tt)) d)
+    let here : k ≡ r = omega arith in
+    ap (λ i. same (getD card i d) (getD part (carry (x .inputs) w i) d)) here ∙ ap (λ y. same (getD card r d) (getD part y d)) (sym eq)
+    ∙ same-rows same card part r q (c .row-item .result) (c .index-part-q .result) true (c .loop-r-test .taken) lq (c .row-item .is) (c .index-part-q .is) (ap (λ y. same (c .row-item .result) y) (c .index-part-q .is) ∙ sym (c .if-not-is-same .ensures tt)) d)
     (cases-lt k r)
 
 pub returns : need.returns
@@ -94,4 +94,4 @@ returns g c =
     let whole : length (card .rows .now) ≡ 2 ^ x .inputs = card .whole ∙ ap (λ n. 2 ^ n) ec in
     checked same (x .inputs) (pin (x .pins)) (card .rows .now) (part .rows .now) true (x .into, x .apart)
     (so _ (rows-agree same (x .inputs) (card .rows .now) (part .rows .now) (pin (x .pins)) (x .into, x .apart) whole (part .whole ∙ ap (λ n. 2 ^ n) ep)
-      (λ r d lr. c .loop-r .inv r d (omega (arith, c .loop-r-test .left, whole)))))
+    (λ r d lr. c .loop-r .inv r d (omega (arith, c .loop-r-test .left, whole)))))

@@ -12,9 +12,9 @@ use Rattle.tables.proofs.partial_wiring.PartialWiring.with.Needs.{then-self·b
 pub returns-then-self : need.returns-then-self
 returns-then-self c = λ h.
     elim (c .then-self .came) [
-      then-self·by·then-self way ↦ omega (arith, h .0, way .if-self .taken)
-    | then-self·by·else-self·then-at-self way ↦ omega (arith, h .1, way .if-at-self .taken)
-    | then-self·by·else-self·else-at-self·then-self-at way ↦ both-ways _ (c .args .self .now .unmarked (c .args .pin) (h .2)) (way .if-self-at .taken)
+      | then-self·by·then-self way ↦ omega (arith, h .0, way .if-self .taken)
+      | then-self·by·else-self·then-at-self way ↦ omega (arith, h .1, way .if-at-self .taken)
+      | then-self·by·else-self·else-at-self·then-self-at way ↦ both-ways _ (c .args .self .now .unmarked (c .args .pin) (h .2)) (way .if-self-at .taken)
     ]
 
 pub ghost-longer : need.ghost-longer
@@ -31,6 +31,19 @@ ghost-longer c =
     let u = pin (set (x .pins) (x .len) p) in
     let kept = pins-kept (x .pins) (x .len) p in
     let new = pins-new (x .pins) (x .len) p long in
-    let placed = placed-more (x .inputs) (x .len) p w u kept new (x .into, x .apart) low (λ i li e. both-ways _ (c .if-self-at .left) (ap (λ y. getD (x .used) y false) (sym e) ∙ x .marked i li)) in
-    (few, (omega arith, (placed .0, (placed .1, (rest-more (x .pins) (x .len) p (x .rest),
-      (marked-more (x .inputs) (x .len) p w u kept new (x .used) wide (x .marked), (unmarked-more (x .inputs) (x .len) p w u kept new (x .used) wide (x .unmarked), tt)))))))
+    let placed = placed-more (x .inputs) (x .len) p w u kept new (x .into, x .apart) low (λ i li e. both-ways _ (c .if-self-at .left) (ap (λ y. getD (x .used) y false) (sym e) ∙ x .marked i li)) in (
+      few,
+      (
+        omega arith,
+        (
+          placed .0,
+          (
+            placed .1,
+            (
+              rest-more (x .pins) (x .len) p (x .rest),
+              (marked-more (x .inputs) (x .len) p w u kept new (x .used) wide (x .marked), (unmarked-more (x .inputs) (x .len) p w u kept new (x .used) wide (x .unmarked), tt)),
+            ),
+          ),
+        ),
+      ),
+    )

@@ -41,8 +41,8 @@ loop-i-again c =
     let li : i < x .inputs = c .loop-i-test .taken in
     let into : w i < x .inputs = x .into i li in
     elim (c .if-row-i-eq1 .came) [
-      then-row-i-eq1 way ↦ omega (arith, way .carried-is, worth (w i) (omega arith), carry-more (x .inputs) i w (c .args .row) (way .if-row-i-eq1 .taken), c .loop-i .inv)
-    | else-row-i-eq1 way ↦ way .carried-is ∙ c .loop-i .inv ∙ sym (carry-skip (x .inputs) i w (c .args .row) (way .if-row-i-eq1 .left))
+      | then-row-i-eq1 way ↦ omega (arith, way .carried-is, worth (w i) (omega arith), carry-more (x .inputs) i w (c .args .row) (way .if-row-i-eq1 .taken), c .loop-i .inv)
+      | else-row-i-eq1 way ↦ way .carried-is ∙ c .loop-i .inv ∙ sym (carry-skip (x .inputs) i w (c .args .row) (way .if-row-i-eq1 .left))
     ]
 
 pub returns : need.returns
