@@ -53,10 +53,10 @@ module _ {R : Type 0} (same : R → R → Bool) (weight : R → ℕ) (alike : (x
   weighs (x ∷ card) part r q lr lq s = getD-map weight (x ∷ card) r x 0 lr ∙ alike _ _ (s x) ∙ sym (getD-map weight part q x 0 lq)
 
   module _ (n : ℕ) (card part : List R) (w : ℕ → ℕ) (a : Agree same n w card part) where
-    abbrev there : ℕ → ℕ
+    abbrev pub there : ℕ → ℕ
     there = row-there n w (a .wires)
 
-    weight-there : (r : ℕ) → r < 2 ^ n → getD (map weight card) r 0 ≡ getD (map weight part) (there r) 0
+    pub weight-there : (r : ℕ) → r < 2 ^ n → getD (map weight card) r 0 ≡ getD (map weight part) (there r) 0
     weight-there r lr =
         let lq = there-lt n w (a .wires) r in
         weighs card part r (there r) (rw (a .card-rows) lr) (rw (a .part-rows) lq) (λ d. a .rows r (there r) d lr lq (carried n w (a .wires) r))

@@ -50,7 +50,7 @@ row-test n card part w r = on-off-same (getD card r Off) (getD part (carry n w r
 abbrev sizes-test : ℕ → List OnOff → List OnOff → Bool
 sizes-test n card part = eqb (length card) (2 ^ n) && eqb (length part) (2 ^ n)
 
-abbrev agree-test : ℕ → List OnOff → List OnOff → (ℕ → ℕ) → Bool
+abbrev pub agree-test : ℕ → List OnOff → List OnOff → (ℕ → ℕ) → Bool
 agree-test n card part w =
     let rows = all-below (2 ^ n) (row-test n card part w) in
     (low-test n w && all-apart-test n w) && (sizes-test n card part && rows)
@@ -74,7 +74,7 @@ module _ (n : ℕ) (card part : List OnOff) where
       ∙ ap (λ x. on-off-same (getD card r Off) x) (getD-default part (carry n w r) d Off (omega arith))
       ∙ all-below-at (2 ^ n) (row-test n card part w) (filled .1) r lr)
 
-  agree-tests : (w : ℕ → ℕ) → Agree on-off-same n w card part → agree-test n card part w ≡ true
+  pub agree-tests : (w : ℕ → ℕ) → Agree on-off-same n w card part → agree-test n card part w ≡ true
   agree-tests w a =
       and-from (low-test n w && all-apart-test n w) (sizes-test n card part && all-below (2 ^ n) (row-test n card part w))
       (and-from (low-test n w) (all-apart-test n w)

@@ -7,5 +7,5 @@ pub fn worked_facts_stand() -> usize
     ensures hold { λ _. ⌜ WorkedFacts ⌝ }
     ensures count { λ r. ⌜ r ≡ length cases ⌝ }
 {
-    4
+    15
 }

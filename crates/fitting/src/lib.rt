@@ -1,0 +1,4 @@
+mod pruning;
+
+pub use pruning::spread_by;
+pub use pruning::strikes_by;

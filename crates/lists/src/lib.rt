@@ -1,0 +1,8 @@
+mod lists;
+mod spreading;
+mod striking;
+
+pub use lists::Lists;
+pub use spreading::spread;
+pub use striking::strikes;
+pub use striking::struck_count;

@@ -1,0 +1,13 @@
+pub mod Places
+pub mod Asking
+pub mod Turns
+pub mod Ones
+pub mod Flips
+pub mod Neighbours
+pub mod Quarter
+pub mod Refining
+pub mod Piling
+pub mod Laws
+pub mod Counts
+pub mod Kept
+pub mod OneOf

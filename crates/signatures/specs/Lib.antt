@@ -1,0 +1,5 @@
+pub mod Law
+pub mod Values
+pub mod Counted
+pub mod Eithers
+pub mod Literature
