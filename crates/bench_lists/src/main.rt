@@ -1,5 +1,14 @@
-use rows::{OnOff, OnOffRow};
-use signatures::{Breakup, BreakupSignature, Cofactor, CofactorSignature, Pile, PileSignature, Refined, RefinedSignature, Signature};
+use rows::OnOff;
+use rows::OnOffRow;
+use signatures::Breakup;
+use signatures::BreakupSignature;
+use signatures::Cofactor;
+use signatures::CofactorSignature;
+use signatures::Pile;
+use signatures::PileSignature;
+use signatures::Refined;
+use signatures::RefinedSignature;
+use signatures::Signature;
 use std::env;
 use std::error::AnyError;
 use tables::Table;
@@ -22,7 +31,10 @@ fn sum_of_lists(tables: u32) -> u32 {
             OnOff::Off => OnOff::On,
             OnOff::On => OnOff::Off,
         };
-        let table = Table { inputs: 10, rows: &rows };
+        let table = Table {
+            inputs: 10,
+            rows: &rows,
+        };
         let lists = pile.lists(&table);
         sum = sum.wrapping_add(lists.answers[t as usize % 10][t as usize % 12]);
     }

@@ -22,7 +22,7 @@ use Rattle.signatures.proofs.Kept.{list-is, keeps}
 use Rattle.tables.specs.Agreement.{Agree}
 use Rattle.tables.specs.Wirings.{pin, Wires}
 use Rattle.tables.proofs.Reading.{same-inputs}
-use Rattle.fitting.specs.Pruning.{tells-apart}
+use Rattle.fitting.specs.Pruning.{all-lists, tells-apart}
 
 -- no pair of which one half is missing
 off : (s t x y : Bool) → t ≡ false → (s && t && x) ≡ (s && t && y)
@@ -30,7 +30,7 @@ off true t x y e = ap (λ u. u && x) e ∙ sym (ap (λ u. u && y) e)
 off false t x y e = refl
 
 module _ {R : Type 0} (count : ℕ) (value : ℕ → List R → ℕ → ℕ → ℕ) where
-  pub lists-are : (n : ℕ) (rows : List R) (a : Lists) → GivesLists count value n rows a → lists a ≡ map (list-of count value n rows) (counting 0 n)
+  pub lists-are : (n : ℕ) (rows : List R) (a : Lists) → GivesLists count value n rows a → lists a ≡ all-lists count value n rows
   lists-are n rows a h =
       let few = a .few in
       let whole = a .whole in
@@ -39,6 +39,10 @@ module _ {R : Type 0} (count : ℕ) (value : ℕ → List R → ℕ → ℕ → 
 
   module _ (same : R → R → Bool) (law : Lawful count value same) (n m : ℕ) (card part : List R) (a b : Lists)
       (ha : GivesLists count value n card a) (hb : GivesLists count value m part b) where
+    -- what is worked out from the lists is worked out from the tables
+    pub from-lists : (f : List (List ℕ) → List (List ℕ) → ℕ) → f (lists a) (lists b) ≡ f (all-lists count value n card) (all-lists count value m part)
+    from-lists f = ap (λ x. f x (lists b)) (lists-are n card a ha) ∙ ap (λ y. f (all-lists count value n card) y) (lists-are m part b hb)
+
     pub apart-is : (i p : ℕ) → unequal a b i p ≡ tells-apart n m (list-of count value n card) (list-of count value m part) i p
     apart-is i p =
         ap (λ k. ltb i k && ltb p (b .inputs) && not (equal (list a i) (list b p))) (ha .inputs)

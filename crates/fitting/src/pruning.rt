@@ -1,15 +1,15 @@
 ghost use mathlib.Core.Path.{_≡_};
-ghost use mathlib.Core.List.{map};
 ghost use Prim.Native.Nat.{ℕ};
-ghost use Rattle.std.specs.Iters.{counting};
 ghost use Rattle.lists.specs.Counting.{AtMost};
+ghost use Rattle.lists.specs.Pairs.{struck-pairs};
 ghost use Rattle.lists.specs.Spread.{spread};
 ghost use Rattle.matching.specs.Struck.{struck, Spared};
 ghost use Rattle.signatures.specs.Law.{list-of};
 ghost use Rattle.tables.specs.Agreement.{Agree};
-ghost use Rattle.fitting.specs.Pruning.{tells-apart};
+ghost use Rattle.fitting.specs.Pruning.{all-lists, tells-apart};
 use lists::spread;
 use lists::strikes;
+use lists::struck_count;
 use matching::Strikes;
 use rows::RowKind;
 use signatures::Signature;
@@ -27,9 +27,16 @@ pub fn strikes_by<R: RowKind, P: Signature<R>>(
     strikes(&pile.lists(card), &pile.lists(part))
 }
 
+// How many pairs a pile tells apart.
+pub fn struck_by<R: RowKind, P: Signature<R>>(pile: &P, card: &Table<R>, part: &Table<R>) -> usize
+    ensures { λ r. ⌜ r ≡ struck-pairs (all-lists (P·Signature .count (now (pile .entry))) (P·Signature .value (now (pile .entry))) (now (card .entry) .inputs) (now (now (card .entry) .rows))) (all-lists (P·Signature .count (now (pile .entry))) (P·Signature .value (now (pile .entry))) (now (part .entry) .inputs) (now (now (part .entry) .rows))) ⌝ }
+{
+    struck_count(&pile.lists(card), &pile.lists(part))
+}
+
 // In how many ways a pile leaves the pins open: the agreeing wirings number at most so many.
 pub fn spread_by<R: RowKind, P: Signature<R>>(pile: &P, card: &Table<R>, part: &Table<R>) -> u32
-    ensures formula { λ r. ⌜ r ≡ spread (map (list-of (P·Signature .count (now (pile .entry))) (P·Signature .value (now (pile .entry))) (now (card .entry) .inputs) (now (now (card .entry) .rows))) (counting 0 (now (card .entry) .inputs))) (map (list-of (P·Signature .count (now (pile .entry))) (P·Signature .value (now (pile .entry))) (now (part .entry) .inputs) (now (now (part .entry) .rows))) (counting 0 (now (part .entry) .inputs))) ⌝ }
+    ensures formula { λ r. ⌜ r ≡ spread (all-lists (P·Signature .count (now (pile .entry))) (P·Signature .value (now (pile .entry))) (now (card .entry) .inputs) (now (now (card .entry) .rows))) (all-lists (P·Signature .count (now (pile .entry))) (P·Signature .value (now (pile .entry))) (now (part .entry) .inputs) (now (now (part .entry) .rows))) ⌝ }
     ensures bound { λ r. ⌜ AtMost (λ w. Agree (R·RowKind .same) (now (card .entry) .inputs) w (now (now (card .entry) .rows)) (now (now (part .entry) .rows))) (now (card .entry) .inputs) r ⌝ }
 {
     spread(&pile.lists(card), &pile.lists(part))
