@@ -11,12 +11,21 @@ use failure::FailureDisplay;
 use failure::FailureFromAlloc;
 use failure::FailureFromIo;
 use failure::Side;
-use matching::Strikes;
-use matching::first_wiring;
+use fitting::spread_by;
+use fitting::struck_by;
+use fitting::wiring_by;
 use reading::inputs_for;
 use reading::rows_from;
 use rows::OnOff;
 use rows::OnOffRow;
+use signatures::Breakup;
+use signatures::BreakupSignature;
+use signatures::Cofactor;
+use signatures::CofactorSignature;
+use signatures::Pile;
+use signatures::PileSignature;
+use signatures::Refined;
+use signatures::RefinedSignature;
 use std::env;
 use tables::Table;
 use tables::Wiring;
@@ -68,7 +77,14 @@ fn rewire(rt: &LibcRuntime, card: &str, part: &str) -> Result<(), Failure> {
     };
     println!(rt, "card: {} inputs, {} rows", card.inputs, card.rows.len())?;
     println!(rt, "part: {} inputs, {} rows", part.inputs, part.rows.len())?;
-    show(rt, first_wiring(&card, &part, &Strikes::none()))
+    let pile = Pile(Cofactor, Pile(Breakup, Refined(Cofactor)));
+    let struck = struck_by(&pile, &card, &part);
+    let open = spread_by(&pile, &card, &part);
+    println!(
+        rt,
+        "signatures tell {struck} pairs of input and pin apart, and leave at most {open} wirings"
+    )?;
+    show(rt, wiring_by(&pile, &card, &part))
 }
 
 fn run(rt: &LibcRuntime) -> Result<(), Failure> {

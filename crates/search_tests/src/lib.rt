@@ -22,6 +22,7 @@ mod tests {
     use tables::agrees;
 
     const OFF: OnOff = OnOff::Off;
+
     const ON: OnOff = OnOff::On;
 
     // The number of a refusal, or 0 where there is none.
@@ -39,8 +40,14 @@ mod tests {
 
     #[test]
     fn on_off_rows_have_one_wiring() -> Result<(), Fail> {
-        let card = Table { inputs: 3, rows: &[OFF, OFF, ON, ON, OFF, ON, OFF, ON] };
-        let part = Table { inputs: 3, rows: &[OFF, OFF, OFF, ON, ON, OFF, ON, ON] };
+        let card = Table {
+            inputs: 3,
+            rows: &[OFF, OFF, ON, ON, OFF, ON, OFF, ON],
+        };
+        let part = Table {
+            inputs: 3,
+            rows: &[OFF, OFF, OFF, ON, ON, OFF, ON, ON],
+        };
         let mut strikes = Strikes::none();
         has_pins(first_wiring(&card, &part, &strikes), &[1, 2, 0])?;
         let wiring = Wiring::new(3, &[1, 2, 0])?;
@@ -56,7 +63,10 @@ mod tests {
 
     #[test]
     fn a_struck_pair_is_kept_to() -> Result<(), Fail> {
-        let table = Table { inputs: 2, rows: &[OFF, OFF, OFF, ON] };
+        let table = Table {
+            inputs: 2,
+            rows: &[OFF, OFF, OFF, ON],
+        };
         let mut strikes = Strikes::none();
         has_pins(first_wiring(&table, &table, &strikes), &[0, 1])?;
         strikes.strike(0, 0);
@@ -66,31 +76,84 @@ mod tests {
     #[test]
     fn few_inputs() -> Result<(), Fail> {
         let strikes = Strikes::none();
-        let off = Table { inputs: 0, rows: &[OFF] };
-        let on = Table { inputs: 0, rows: &[ON] };
+        let off = Table {
+            inputs: 0,
+            rows: &[OFF],
+        };
+        let on = Table {
+            inputs: 0,
+            rows: &[ON],
+        };
         has_pins(first_wiring(&on, &on, &strikes), &[])?;
         check(first_wiring(&on, &off, &strikes).is_none())?;
-        let rising = Table { inputs: 1, rows: &[OFF, ON] };
-        let falling = Table { inputs: 1, rows: &[ON, OFF] };
+        let rising = Table {
+            inputs: 1,
+            rows: &[OFF, ON],
+        };
+        let falling = Table {
+            inputs: 1,
+            rows: &[ON, OFF],
+        };
         check(first_wiring(&rising, &falling, &strikes).is_none())?;
         check(first_wiring(&on, &falling, &strikes).is_none())
     }
 
     #[test]
     fn drives_agree_up_to_the_holds_of_rests() -> Result<(), Fail> {
-        let card = [Drive::new(0, 4)?, Drive::new(1, 7)?, Drive::new(1, 8)?, Drive::new(2, 7)?];
-        let long_rest = [Drive::new(0, 9)?, Drive::new(1, 8)?, Drive::new(1, 7)?, Drive::new(2, 7)?];
-        let long_left = [Drive::new(0, 4)?, Drive::new(1, 6)?, Drive::new(1, 9)?, Drive::new(2, 7)?];
-        let card = Table { inputs: 2, rows: &card };
+        let card = [
+            Drive::new(0, 4)?,
+            Drive::new(1, 7)?,
+            Drive::new(1, 8)?,
+            Drive::new(2, 7)?,
+        ];
+        let long_rest = [
+            Drive::new(0, 9)?,
+            Drive::new(1, 8)?,
+            Drive::new(1, 7)?,
+            Drive::new(2, 7)?,
+        ];
+        let long_left = [
+            Drive::new(0, 4)?,
+            Drive::new(1, 6)?,
+            Drive::new(1, 9)?,
+            Drive::new(2, 7)?,
+        ];
+        let card = Table {
+            inputs: 2,
+            rows: &card,
+        };
         let strikes = Strikes::none();
-        has_pins(first_wiring(&card, &Table { inputs: 2, rows: &long_rest }, &strikes), &[1, 0])?;
-        check(first_wiring(&card, &Table { inputs: 2, rows: &long_left }, &strikes).is_none())
+        has_pins(
+            first_wiring(
+                &card,
+                &Table {
+                    inputs: 2,
+                    rows: &long_rest,
+                },
+                &strikes,
+            ),
+            &[1, 0],
+        )?;
+        check(first_wiring(
+            &card,
+            &Table {
+                inputs: 2,
+                rows: &long_left,
+            },
+            &strikes,
+        ).is_none())
     }
 
     #[test]
     fn indistinct_rows_take_the_first_wiring() -> Result<(), Fail> {
-        let card = Table { inputs: 2, rows: &[Indistinct(1), Indistinct(2), Indistinct(3), Indistinct(4)] };
-        let part = Table { inputs: 2, rows: &[Indistinct(9), Indistinct(8), Indistinct(8), Indistinct(7)] };
+        let card = Table {
+            inputs: 2,
+            rows: &[Indistinct(1), Indistinct(2), Indistinct(3), Indistinct(4)],
+        };
+        let part = Table {
+            inputs: 2,
+            rows: &[Indistinct(9), Indistinct(8), Indistinct(8), Indistinct(7)],
+        };
         has_pins(first_wiring(&card, &part, &Strikes::none()), &[0, 1])?;
         check(agrees(&card, &part, &Wiring::new(2, &[1, 0])?))
     }
@@ -106,11 +169,20 @@ mod tests {
             card[r] = ON;
             part[q] = ON;
         }
-        let card = Table { inputs: 10, rows: &card };
-        let part = Table { inputs: 10, rows: &part };
+        let card = Table {
+            inputs: 10,
+            rows: &card,
+        };
+        let part = Table {
+            inputs: 10,
+            rows: &part,
+        };
         check(agrees(&card, &part, &wiring))?;
         // The part's pins 1 and 3 may be exchanged, and the lower comes first.
-        has_pins(first_wiring(&card, &part, &Strikes::none()), &[1, 3, 4, 0, 5, 9, 2, 6, 8, 7])
+        has_pins(
+            first_wiring(&card, &part, &Strikes::none()),
+            &[1, 3, 4, 0, 5, 9, 2, 6, 8, 7],
+        )
     }
 
     #[test]
@@ -131,7 +203,10 @@ mod tests {
         check_eq(refused(Wiring::new(2, &[0, 2])), 14)?;
         check_eq(refused(Wiring::new(2, &[1, 0, 1])), 14)?;
         check_eq(refused(Wiring::new(2, &[1])), 14)?;
-        check_eq(refused(Wiring::new(11, &[0, 1, 2, 3, 4, 5, 6, 7, 8, 9, 10])), 3)?;
+        check_eq(
+            refused(Wiring::new(11, &[0, 1, 2, 3, 4, 5, 6, 7, 8, 9, 10])),
+            3,
+        )?;
         let low = Wiring::new(3, &[0, 2, 1])?;
         let high = Wiring::new(3, &[2, 0, 1])?;
         check(low.comes_before(&high))?;
