@@ -25,6 +25,9 @@ module _ (card part : Lists) where
   pub unequal-not : (i p : ℕ) → list card i ≡ list part p → unequal card part i p ≡ false
   unequal-not i p e = let same = equal-decides (list card i) (list part p) .1 e in grind (arith, tells)
 
+  pub unequal-so : (i p : ℕ) → i < card .inputs → p < part .inputs → unequal card part i p ≡ false → list card i ≡ list part p
+  unequal-so i p li lp off = equal-decides (list card i) (list part p) .0 (grind (arith, tells))
+
   -- at input i and pin p, the pairs before that have unequal lists are struck, and no other
   abbrev pub Upto : ℕ → ℕ → List (List Bool) → Type 0
   Upto i p strikes = (a b : ℕ) → struck strikes a b ≡ (ltb a i || (eqb a i && ltb b p)) && unequal card part a b

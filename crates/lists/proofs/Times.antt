@@ -55,7 +55,7 @@ times-others x xs =
     let other : List ℕ → Bool = λ y. not (equal x y) in
     omega (arith, length-kept-by-both (equal x) other (λ _. refl) xs, length-kept-by (equal x) xs, length-kept-by other xs)
 
-pub times-mem : (x : List ℕ) (xs : List (List ℕ)) → 0 < times x xs → Mem x xs
+times-mem : (x : List ℕ) (xs : List (List ℕ)) → 0 < times x xs → Mem x xs
 times-mem x [] some = absurd (omega arith)
 times-mem x (y ∷ ys) some = ⊎-elim inl (λ other. inr (times-mem x ys (omega (arith, times-cons x y ys, one-other x y other)))) (cases-list x y)
 
@@ -70,8 +70,8 @@ taken x (z ∷ zs) some =
     (z ∷ t .0, omega (arith, t .1), λ y. omega (arith, times-cons y z zs, t .2 y, times-cons y z (t .0))))
     (cases-list x z)
 
--- where no list of xs occurs more often than in ps, ps is as long
-pub fewer : (xs ps : List (List ℕ)) → ((y : List ℕ) → times y xs ≤ times y ps) → length xs ≤ length ps
+-- where no list occurs more often in xs than in ps, xs is no longer
+fewer : (xs ps : List (List ℕ)) → ((y : List ℕ) → times y xs ≤ times y ps) → length xs ≤ length ps
 fewer [] ps le = omega arith
 fewer (x ∷ xs) ps le =
     let t = taken x ps (omega (arith, le x, times-cons x x xs, one-same x x refl)) in
@@ -97,12 +97,12 @@ apart-le xs ys a inside = fewer xs ys (λ x. ⊎-elim
     (cases-eq (times x xs) 0))
 
 module _ (xs ps : List (List ℕ)) where
-  -- each list occurs as often in xs as in ps
-  abbrev pub Level : Type 0
-  Level = (y : List ℕ) → times y xs ≡ times y ps
-
   abbrev Often : List ℕ → Type 0
   Often y = times y xs ≡ times y ps
+
+  -- each list occurs as often in xs as in ps
+  abbrev pub Level : Type 0
+  Level = (y : List ℕ) → Often y
 
   pub level-decides : Decides (level xs ps) Level
   level-decides =

@@ -27,6 +27,7 @@ abbrev pub product : List ℕ → ℕ
 product [] = 1
 product (x ∷ xs) = x * product xs
 
--- the product, over the lists that occur, of the factorial of how often; 0 unless each occurs as often on both sides
+-- the product, over the lists that occur, of the factorial of how often, which is 1 where none occurs; 0 unless each
+-- occurs as often on both sides
 abbrev pub spread : List (List ℕ) → List (List ℕ) → ℕ
 spread inputs pins = cond (level inputs pins) (product (map (λ x. factorial (times x inputs)) (once inputs))) 0

@@ -4,8 +4,8 @@ ghost use lib.ListN.{length};
 
 mod reading;
 
-// The list of each input of a table: its answers, place by place. Only the first rows, one for each input, and in them
-// the first places count.
+// For each input of a table its list: its answers at every place, in order. Rows past the inputs and answers past the
+// places do not count.
 #[derive(Clone, Copy)]
 pub struct Lists {
     pub inputs: usize,

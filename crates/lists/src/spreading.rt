@@ -19,11 +19,11 @@ pub fn spread(card: &Lists, part: &Lists) -> u32
     let mut product = 1;
     for input in 0..card.inputs {
         let list = card.list(input);
-        // With as many pins as inputs, no pin is left over if this holds of every input.
+        // To ask this of the inputs' lists is enough: there are as many pins, so none is left over.
         if card.times(list, 0) != part.times(list, 0) {
             return 0;
         }
-        // An input can go to as many pins as it and the later inputs have its list.
+        // As many pins with this list are still free as this input and the later ones have it.
         let later = card.times(list, input + 1);
         product *= 1 + later;
     }

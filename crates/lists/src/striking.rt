@@ -1,15 +1,17 @@
 ghost use mathlib.Core.Path.{_≡_};
 ghost use Prim.Native.Nat.{ℕ};
+ghost use Rattle.tables.specs.Wirings.{Wires};
 ghost use Rattle.matching.specs.Struck.{struck, Spared};
 ghost use Rattle.lists.specs.Lists.{lists, Keeps};
 ghost use Rattle.lists.specs.Pairs.{unequal, struck-pairs};
 use crate::lists::Lists;
 use matching::Strikes;
 
-// The pairs of an input and a pin with unequal lists are struck, and no other: no wiring that keeps the lists uses one.
+// Strikes each pair of an input and a pin with unequal lists, and no other: the wirings that keep the lists are spared.
 pub fn strikes(card: &Lists, part: &Lists) -> Strikes
     ensures exact { λ r. ⌜ ((i p : ℕ) → struck (r .struck) i p ≡ unequal (now (card .entry)) (now (part .entry)) i p) ⌝ }
     ensures spares { λ r. ⌜ ((n : ℕ) (w : ℕ → ℕ) → Keeps n (now (card .entry)) (now (part .entry)) w → Spared (r .struck) n w) ⌝ }
+    ensures keeps { λ r. ⌜ ((n : ℕ) (w : ℕ → ℕ) → now (card .entry) .inputs ≡ n → now (part .entry) .inputs ≡ n → Wires n w → Spared (r .struck) n w → Keeps n (now (card .entry)) (now (part .entry)) w) ⌝ }
 {
     let mut strikes = Strikes::none();
     for input in 0..card.inputs {
@@ -28,8 +30,8 @@ pub fn struck_count(card: &Lists, part: &Lists) -> usize
 {
     let mut count = 0;
     for input in 0..card.inputs {
-        let equal = part.times(card.list(input), 0) as usize;
-        count += part.inputs - equal;
+        let fitting = part.times(card.list(input), 0) as usize;
+        count += part.inputs - fitting;
     }
     count
 }

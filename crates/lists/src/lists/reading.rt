@@ -26,12 +26,12 @@ impl Lists {
     }
 
     // How often a list occurs among the inputs from `from` on.
-    pub fn times(&self, list: &[u32], from: usize) -> u32
-        ensures { λ r. ⌜ r ≡ times (now (list .entry)) (drop from (lists (now (self .entry)))) ⌝ }
+    pub(crate) fn times(&self, sought: &[u32], from: usize) -> u32
+        ensures { λ r. ⌜ r ≡ times (now (sought .entry)) (drop from (lists (now (self .entry)))) ⌝ }
     {
         let mut times = 0;
         for input in from..self.inputs {
-            if list == self.list(input) {
+            if sought == self.list(input) {
                 times += 1;
             }
         }

@@ -24,14 +24,14 @@ pub returns-then-card-part : need.returns-then-card-part
 returns-then-card-part c =
     let card = c .args .card .now in
     let part = c .args .part .now in
-    let e = sym (spread-zero (lists card) (lists part) (λ h. c .if-card-part .taken (sym (length-lists card) ∙ level-length (lists card) (lists part) h ∙ length-lists part))) in
+    let e = sym (spread-zero (lists card) (lists part) (λ h. omega (arith, length-lists card, length-lists part, level-length (lists card) (lists part) h, c .if-card-part .taken))) in
     record { formula = e; uneven = λ _. refl; bound = bound card part 0 e }
 
 pub returns-then-times : need.returns-then-times
 returns-then-times c =
     let card = c .args .card .now in
     let part = c .args .part .now in
-    let e = sym (spread-zero (lists card) (lists part) (λ h. c .if-times .taken (c .times .ensures ∙ h (c .list-list .result .now) ∙ sym (c .times-in-loop-input .ensures)))) in
+    let e = sym (spread-zero (lists card) (lists part) (λ h. omega (arith, c .times .ensures, h (c .list-list .result .now), c .times-in-loop-input .ensures, c .if-times .taken))) in
     record { formula = e; uneven = λ _. refl; bound = bound card part 0 e }
 
 -- the turn of an input
@@ -66,7 +66,7 @@ returns c =
     let xs = lists card in
     let product = c .loop-input .product in
     let done : length xs ≤ c .loop-input .input = omega (arith, length-lists card, c .loop-input-test .left) in
-    let level = level-from-inputs xs (lists part) (length-lists card ∙ c .if-card-part .left ∙ sym (length-lists part)) (λ i li. c .loop-input .inv .1 i (omega arith)) in
+    let level = level-from-inputs xs (lists part) (omega (arith, length-lists card, length-lists part, c .if-card-part .left)) (λ i li. c .loop-input .inv .1 i (omega arith)) in
     let e : product ≡ spread xs (lists part) =
     sym (mul-one product) ∙ ap (λ n. product * n) (sym (at-drop-all running xs (c .loop-input .input) done)) ∙ c .loop-input .inv .0 ∙ sym (spread-running xs (lists part) level) in
     record { formula = e; uneven = λ ne. absurd (ne (c .if-card-part .left)); bound = bound card part product e }

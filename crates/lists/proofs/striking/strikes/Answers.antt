@@ -1,8 +1,8 @@
-use mathlib.Core.Path.{ap, _∙_}
+use mathlib.Core.Path.{sym, ap, _∙_}
 use mathlib.Core.Bool.{not}
 use native.Mathlib.Omega.{arith}
 use Rattle.matching.specs.Struck.{struck}
-use Rattle.lists.proofs.Pairs.{unequal-here, unequal-not, upto-none, upto-pass, upto-strike, upto-row, upto-all}
+use Rattle.lists.proofs.Pairs.{unequal-here, unequal-not, unequal-so, upto-none, upto-pass, upto-strike, upto-row, upto-all}
 use Rattle.lists.proofs.striking.strikes.Needs as need
 use Rattle.lists.proofs.striking.strikes.Needs.{then-not-is-equal, else-not-is-equal}
 
@@ -36,4 +36,5 @@ returns c =
     record {
       exact = exact;
       spares = λ n w keeps i li. exact i (w i) ∙ unequal-not card part i (w i) (keeps i li);
+      keeps = λ n w inputs pins wires spared i li. let into = wires .0 i li in unequal-so card part i (w i) (omega arith) (omega arith) (sym (exact i (w i)) ∙ spared i li);
     }

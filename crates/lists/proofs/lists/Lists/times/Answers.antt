@@ -11,12 +11,9 @@ use Rattle.lists.proofs.Times.{equal-from-eq, times-drop-more}
 use Rattle.lists.proofs.lists.Lists.times.Needs as need
 use Rattle.lists.proofs.lists.Lists.times.Needs.{then-eq, else-eq}
 
-pub loop-input-holds : need.loop-input-holds
-loop-input-holds c = (omega arith, omega arith)
-
 pub loop-input-again : need.loop-input-again
 loop-input-again c =
-    let x = c .args .list .now in
+    let x = c .args .sought .now in
     let t = c .args .self .now in
     let more = times-drop-more x (lists t) (c .loop-input .input) (c .eq .result) (omega (arith, length-lists t, c .loop-input-test .taken)) (equal-from-eq x (c .list .result .now) _ (c .eq .result) (c .eq .ensures) (c .list .ensures)) in
     elim (c .if-eq .came) [
@@ -26,7 +23,7 @@ loop-input-again c =
 
 pub returns : need.returns
 returns c =
-    let x = c .args .list .now in
+    let x = c .args .sought .now in
     let t = c .args .self .now in
     let none : times x (drop (c .loop-input .input) (lists t)) ≡ 0 = at-drop-all (times x) (lists t) (c .loop-input .input) (omega (arith, length-lists t, c .loop-input-test .left)) in
     omega (arith, c .loop-input .inv .1)

@@ -8,4 +8,4 @@ use Rattle.lists.proofs.lists.Lists.times.Given as given
 abbrev pub Inv-loop-input : given.InvT-loop-input
 Inv-loop-input l =
     (l .times ≤ l .input)
-    × (l .times + times (l .list) (drop (l .input) (lists (l .self))) ≡ times (l .list) (drop (l .from) (lists (l .self))))
+    × (l .times + times (l .sought) (drop (l .input) (lists (l .self))) ≡ times (l .sought) (drop (l .from) (lists (l .self))))
