@@ -4,19 +4,11 @@ use mathlib.Core.Bool.{Bool, true, false}
 use mathlib.Core.Logic.{⊎-elim}
 use mathlib.Core.List.{List}
 use Prim.Native.Nat.{ℕ, _+_, _*_, _%_, _^_, _<_, _≤_}
-use native.Mathlib.Nat.{mod-eq-of-lt}
 use native.Mathlib.Omega.{arith}
 use lib.ListN.{length, getD, set}
-use lib.Pow.{pow-mono}
 use Rattle.std.proofs.shelf.Lists.{getD-read, getD-set-same, getD-set-other}
 use Rattle.std.proofs.shelf.Tests.{cases-lt}
 use Rattle.matching.specs.Begun.{Settled, Differs, Kept}
-
-pub pow-small : (k : ℕ) → k < 10 → 2 ^ k ≤ 512
-pow-small k lt = let le : k ≤ 9 = omega arith in let h : 2 ^ k ≤ 2 ^ 9 = pow-mono le in omega arith
-
-pub shift : (k m : ℕ) → 2 ^ k < m → 1 * 2 ^ k % m ≡ 2 ^ k
-shift k m lt = ap (λ x. x % m) (omega arith) ∙ mod-eq-of-lt lt
 
 module _ {R : Type 0} (same : R → R → Bool) (card part : List R) (h further : ℕ) (before : List ℕ) where
   -- what the turn at row r reads

@@ -7,3 +7,4 @@ pub mod Published
 pub mod Growing
 pub mod Weights
 pub mod Reading
+pub mod Shifts

@@ -1,14 +1,12 @@
 use mathlib.Core.Path.{_≡_, sym, ap, _∙_}
 use Prim.Native.Nat.{ℕ, _+_, _*_, _%_, _^_, _<_, _≤_}
 use native.Mathlib.Omega.{arith}
-use Rattle.matching.proofs.Rows.{pow-small, shift, kept-more, settled-more}
+use Rattle.tables.proofs.Shifts.{pow-small, shift}
+use Rattle.matching.proofs.Rows.{kept-more, settled-more}
 use Rattle.matching.proofs.deciding.settle.Needs as need
 
 half-is : (k : ℕ) → k < 10 → 1 * 2 ^ k % 18446744073709551616 ≡ 2 ^ k
-half-is k lt = let s = pow-small k lt in shift k 18446744073709551616 (omega arith)
-
-worth-is : (k : ℕ) → k < 10 → 1 * 2 ^ k % 65536 ≡ 2 ^ k
-worth-is k lt = let s = pow-small k lt in shift k 65536 (omega arith)
+half-is k lt = shift k 18446744073709551616 lt (omega arith)
 
 pub index-carried-r : need.index-carried-r
 index-carried-r g c = let s = pow-small (c .args .input) (c .pre .0) in let e = half-is (c .args .input) (c .pre .0) in omega arith
@@ -25,7 +23,7 @@ loop-r-again g c =
     let worth = 1 * 2 ^ c .args .pin % 65536 in
     let s = pow-small (c .args .input) (c .pre .0) in
     let e = half-is (c .args .input) (c .pre .0) in
-    let b = worth-is (c .args .pin) (c .pre .1 .0) in
+    let b = shift (c .args .pin) 65536 (c .pre .1 .0) (omega arith) in
     let lt = c .loop-r-test .taken in
     let in-part = c .pre .1 .1 .1 .1 (c .loop-r .r) (omega arith) in
     let was = c .loop-r .inv .0 (c .loop-r .r) lt in (

@@ -1,13 +1,13 @@
 use mathlib.Core.Path.{_≡_, refl, sym, ap, _∙_}
 use mathlib.Core.Bool.{cond}
 use Prim.Native.Nat.{ℕ, _+_, _-_, _*_, _%_, _^_, _<_, _≤_}
-use native.Mathlib.Nat.{mod-eq-of-lt}
 use native.Mathlib.Omega.{arith}
 use lib.Dec.{eqb}
 use lib.ListN.{length, getD, length-set}
 use lib.Pow.{pow-mono}
 use Rattle.std.proofs.shelf.Lists.{getD-set-other}
 use Rattle.tables.specs.Sums.{sumTo}
+use Rattle.tables.proofs.Shifts.{shift}
 use Rattle.signatures.specs.Values.{of-pair, compared, neighbour}
 use Rattle.signatures.proofs.Asking.{given-yes, given-no-input, given-no-place}
 use Rattle.signatures.proofs.Flips.{flip-less}
@@ -16,12 +16,6 @@ use Rattle.signatures.proofs.Neighbours.{term, term-small, term-is}
 use Rattle.signatures.proofs.Turns.{sum-more, sum-most, on-no, place-more}
 use Rattle.signatures.proofs.neighbour.NeighbourSignature.list.Needs as need
 use Rattle.signatures.proofs.neighbour.NeighbourSignature.list.Needs.{then-r-input-eq1·in-Some, then-r-input-eq1·in-rest, else-r-input-eq1}
-
-shift : (i : ℕ) → i < 10 → 1 * 2 ^ i % 18446744073709551616 ≡ 2 ^ i
-shift i lt =
-    let le : i ≤ 9 = omega arith in
-    let top : 2 ^ i ≤ 2 ^ 9 = pow-mono le in
-    ap (λ x. x % 18446744073709551616) (omega arith) ∙ mod-eq-of-lt (omega arith)
 
 pub returns-then-input-table : need.returns-then-input-table
 returns-then-input-table g c = λ p. zeros 64 p ∙ sym (given-no-input 3 (neighbour (g .R·RowKind .same) (g .R·RowKind .weight)) (c .args .table .now .inputs) (c .args .table .now .rows .now) (c .args .input) p (c .if-input-table .taken))
@@ -32,7 +26,7 @@ loop-r-holds g c = (refl, (λ p lp. zeros 64 p), λ p le. zeros 64 p)
 pub sub-r : need.sub-r
 sub-r g c =
     let table = c .args .table .now in
-    let e = shift (c .args .input) (omega (arith, c .if-input-table .left, table .few)) in
+    let e = shift (c .args .input) 18446744073709551616 (omega (arith, c .if-input-table .left, table .few)) (omega arith) in
     let less = flip-less (table .inputs) (c .args .input) (c .loop-r .r) (c .if-input-table .left) (omega (arith, c .loop-r-test .taken, table .whole)) (c .if-r-input-eq1 .taken) in
     omega arith
 
@@ -55,7 +49,7 @@ loop-r-again g c =
     let r = c .loop-r .r in
     let list = c .loop-r .list in
     let t = term same weight rows i in
-    let e = shift i (omega (arith, c .if-input-table .left, table .few)) in
+    let e = shift i 18446744073709551616 (omega (arith, c .if-input-table .left, table .few)) (omega arith) in
     elim (c .if-r-input-eq1 .came) [
       | then-r-input-eq1·in-Some way ↦
           let q = way .in-Some .place in

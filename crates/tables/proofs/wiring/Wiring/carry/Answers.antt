@@ -1,20 +1,13 @@
 use mathlib.Core.Path.{_≡_, sym, ap, _∙_}
 use Prim.Native.Nat.{ℕ, _+_, _*_, _%_, _^_, _<_, _≤_}
-use native.Mathlib.Nat.{mod-eq-of-lt}
 use native.Mathlib.Omega.{arith}
-use lib.Pow.{pow-mono}
 use Rattle.tables.specs.Wirings.{pin, Wires}
 use Rattle.tables.specs.declared.wiring.Wiring.{Wiring}
 use Rattle.tables.specs.Carry.{carry}
 use Rattle.tables.proofs.Carries.{carry-more, carry-skip, carry-small, carry-lt, carry-carried}
+use Rattle.tables.proofs.Shifts.{shift}
 use Rattle.tables.proofs.wiring.Wiring.carry.Needs as need
 use Rattle.tables.proofs.wiring.Wiring.carry.Needs.{then-row-i-eq1, else-row-i-eq1}
-
-worth : (p : ℕ) → p < 10 → 1 * 2 ^ p % 18446744073709551616 ≡ 2 ^ p
-worth p lt =
-    let le : p ≤ 9 = omega arith in
-    let top : 2 ^ p ≤ 2 ^ 9 = pow-mono le in
-    ap (λ x. x % 18446744073709551616) (omega arith) ∙ mod-eq-of-lt (omega arith)
 
 wires-of : (x : Wiring) → Wires (x .inputs) (pin (x .pins))
 wires-of x = (x .into, x .apart)
@@ -27,7 +20,7 @@ add-carried c =
     let few : x .inputs ≤ 10 = x .few in
     let li : i < x .inputs = c .loop-i-test .taken in
     let into : w i < x .inputs = x .into i li in
-    let e = worth (w i) (omega arith) in
+    let e = shift (w i) 18446744073709551616 (omega arith) (omega arith) in
     let more = carry-more (x .inputs) i w (c .args .row) (c .if-row-i-eq1 .taken) in
     let top = carry-small (x .inputs) (i + 1) w (c .args .row) (wires-of x) (omega arith) few in
     omega (arith, e, more, top, c .loop-i .inv)
@@ -41,7 +34,7 @@ loop-i-again c =
     let li : i < x .inputs = c .loop-i-test .taken in
     let into : w i < x .inputs = x .into i li in
     elim (c .if-row-i-eq1 .came) [
-      | then-row-i-eq1 way ↦ omega (arith, way .carried-is, worth (w i) (omega arith), carry-more (x .inputs) i w (c .args .row) (way .if-row-i-eq1 .taken), c .loop-i .inv)
+      | then-row-i-eq1 way ↦ omega (arith, way .carried-is, shift (w i) 18446744073709551616 (omega arith) (omega arith), carry-more (x .inputs) i w (c .args .row) (way .if-row-i-eq1 .taken), c .loop-i .inv)
       | else-row-i-eq1 way ↦ way .carried-is ∙ c .loop-i .inv ∙ sym (carry-skip (x .inputs) i w (c .args .row) (way .if-row-i-eq1 .left))
     ]
 
