@@ -82,7 +82,7 @@ fn rewire(rt: &LibcRuntime, card: &str, part: &str) -> Result<(), Failure> {
     let open = spread_by(&pile, &card, &part);
     println!(
         rt,
-        "signatures tell {struck} pairs of input and pin apart, and leave at most {open} wirings"
+        "pairs of input and pin that signatures tell apart: {struck}; spread: {open}"
     )?;
     show(rt, wiring_by(&pile, &card, &part))
 }

@@ -1,4 +1,4 @@
-// Runs of the search and the row check on examples.
+// The library run on examples.
 #[cfg(test)]
 mod tests {
     use matching::Strikes;
@@ -34,7 +34,9 @@ mod tests {
     }
 
     fn has_pins(found: Option<Wiring>, pins: &[u8]) -> Result<(), Fail> {
-        let wiring = found.ok_or("no wiring")?;
+        let Some(wiring) = found else {
+            return Err(Fail::new("no wiring"));
+        };
         check_eq(wiring.pins(), pins)
     }
 
@@ -100,48 +102,31 @@ mod tests {
 
     #[test]
     fn drives_agree_up_to_the_holds_of_rests() -> Result<(), Fail> {
-        let card = [
-            Drive::new(0, 4)?,
-            Drive::new(1, 7)?,
-            Drive::new(1, 8)?,
-            Drive::new(2, 7)?,
-        ];
-        let long_rest = [
-            Drive::new(0, 9)?,
-            Drive::new(1, 8)?,
-            Drive::new(1, 7)?,
-            Drive::new(2, 7)?,
-        ];
-        let long_left = [
-            Drive::new(0, 4)?,
-            Drive::new(1, 6)?,
-            Drive::new(1, 9)?,
-            Drive::new(2, 7)?,
-        ];
+        let resting = [Drive::new(0, 4)?, Drive::new(1, 7)?];
+        let longer_rest = [Drive::new(0, 9)?, Drive::new(1, 7)?];
+        let lefts = [Drive::new(1, 7)?, Drive::new(1, 8)?];
+        let turned_lefts = [Drive::new(1, 8)?, Drive::new(1, 7)?];
+        let straight = Wiring::new(1, &[0])?;
         let card = Table {
-            inputs: 2,
-            rows: &card,
+            inputs: 1,
+            rows: &resting,
         };
-        let strikes = Strikes::none();
-        has_pins(
-            first_wiring(
-                &card,
-                &Table {
-                    inputs: 2,
-                    rows: &long_rest,
-                },
-                &strikes,
-            ),
-            &[1, 0],
-        )?;
-        check(first_wiring(
-            &card,
-            &Table {
-                inputs: 2,
-                rows: &long_left,
-            },
-            &strikes,
-        ).is_none())
+        let part = Table {
+            inputs: 1,
+            rows: &longer_rest,
+        };
+        check(agrees(&card, &part, &straight))?;
+        has_pins(first_wiring(&card, &part, &Strikes::none()), &[0])?;
+        let card = Table {
+            inputs: 1,
+            rows: &lefts,
+        };
+        let part = Table {
+            inputs: 1,
+            rows: &turned_lefts,
+        };
+        check(!agrees(&card, &part, &straight))?;
+        check(first_wiring(&card, &part, &Strikes::none()).is_none())
     }
 
     #[test]
@@ -154,8 +139,8 @@ mod tests {
             inputs: 2,
             rows: &[Indistinct(9), Indistinct(8), Indistinct(8), Indistinct(7)],
         };
-        has_pins(first_wiring(&card, &part, &Strikes::none()), &[0, 1])?;
-        check(agrees(&card, &part, &Wiring::new(2, &[1, 0])?))
+        check(agrees(&card, &part, &Wiring::new(2, &[1, 0])?))?;
+        has_pins(first_wiring(&card, &part, &Strikes::none()), &[0, 1])
     }
 
     #[test]
