@@ -1,3 +1,5 @@
+#![tactic(auto)]
+
 mod drawing;
 mod random;
 

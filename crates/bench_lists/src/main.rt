@@ -1,3 +1,5 @@
+#![tactic(auto)]
+
 use rows::OnOff;
 use signatures::{Breakup, Cofactor, Pile, Refined, Signature};
 use std::env;

@@ -1,3 +1,5 @@
+#![tactic(auto)]
+
 mod pruning;
 mod wiring;
 

@@ -1,3 +1,5 @@
+#![tactic(auto)]
+
 mod label;
 mod proposal;
 mod row_store;

@@ -1,3 +1,5 @@
+#![tactic(auto)]
+
 mod fixed;
 
 pub use fixed::law_fixes_answers;

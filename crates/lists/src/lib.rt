@@ -1,3 +1,5 @@
+#![tactic(auto)]
+
 mod lists;
 mod spreading;
 mod striking;

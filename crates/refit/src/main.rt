@@ -1,3 +1,5 @@
+#![tactic(auto)]
+
 mod failure;
 mod matching;
 mod reading;

@@ -1,3 +1,5 @@
+#![tactic(auto)]
+
 mod refusal;
 
 pub use refusal::Refusal;

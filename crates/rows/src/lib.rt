@@ -1,3 +1,5 @@
+#![tactic(auto)]
+
 mod drive;
 mod indistinct;
 mod on_off;

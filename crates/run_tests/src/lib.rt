@@ -1,3 +1,5 @@
+#![tactic(auto)]
+
 mod kinds;
 
 pub use kinds::{drive_run, indistinct_run, on_off_run};

@@ -1,3 +1,5 @@
+#![tactic(auto)]
+
 // The library run on examples.
 #[cfg(test)]
 mod tests {

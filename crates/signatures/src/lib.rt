@@ -1,3 +1,5 @@
+#![tactic(auto)]
+
 mod blank;
 mod breakup;
 mod cofactor;

@@ -1,3 +1,5 @@
+#![tactic(auto)]
+
 mod partial_wiring;
 mod row_check;
 mod table;

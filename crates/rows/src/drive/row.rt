@@ -9,15 +9,15 @@ impl RowKind for Drive {
 
     ghost weight = { drive_weight };
 
-    ghost reflexive = { first_of (Prim.search rules, Prim.grind (arith, Self.row.coded.inj)) };
+    ghost reflexive = { Prim.search rules };
 
-    ghost symmetric = { first_of (Prim.search rules, Prim.grind (arith, Self.row.coded.inj)) };
+    ghost symmetric = { Prim.search rules };
 
-    ghost transitive = { first_of (Prim.search rules, Prim.grind (arith, Self.row.coded.inj)) };
+    ghost transitive = { Prim.search rules };
 
-    ghost alike = { first_of (Prim.search rules, Prim.grind (arith, Self.row.coded.inj)) };
+    ghost alike = { Prim.search rules };
 
-    ghost light = { first_of (Prim.search rules, Prim.grind (arith, Self.row.coded.inj)) };
+    ghost light = { Prim.search rules };
 
     fn is_same(&self, other: &Drive) -> bool {
         match (self.direction, other.direction) {

@@ -2,8 +2,8 @@ use Rattle.std.proofs.Common.{◌≡◌, ◌+◌, ◌-◌, ◌*◌, ◌%◌, ◌
 use Rattle.inventory.proofs.Writes.{shift_rows, rows_fit}
 use Rattle.inventory.proofs.row_store.stored.Goals as goal
 
-pub slice-bounds-result-end : goal.slice-bounds-result-end
-slice-bounds-result-end g c =
+pub slice_bounds-result-end : goal.slice_bounds-result-end
+slice_bounds-result-end g c =
     let small = rows_fit c.args.inputs c.requires.1.1 in
     omega (arith, shift_rows c.args.inputs c.requires.1.1, c.requires.0, c.requires.1.0)
 

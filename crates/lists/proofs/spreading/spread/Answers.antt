@@ -36,13 +36,13 @@ later c = c.times-later.ensures ∙ ap (λ x. times x (drop (c.loop-input.input 
 more : (c : goal.After-times-later) → c.loop-input.product * (1 + c.times-later.result) * running (drop (c.loop-input.input + 1) (lists c.args.card.now)) ≡ running (lists c.args.card.now)
 more c = running_more (lists c.args.card.now) c.loop-input.input c.loop-input.product c.times-later.result (omega (arith, length-lists c.args.card.now)) (later c) c.loop-input.invariant.0
 
-pub overflow-add-product : goal.overflow-add-product
-overflow-add-product c =
+pub overflow_add-product : goal.overflow_add-product
+overflow_add-product c =
     let xs = lists c.args.card.now in
     omega (arith, later c, count_by-le-length (equal (list c.args.card.now c.loop-input.input)) (drop (c.loop-input.input + 1) xs), length-drop (c.loop-input.input + 1) xs, length-lists c.args.card.now)
 
-pub overflow-mul-product : goal.overflow-mul-product
-overflow-mul-product c =
+pub overflow_mul-product : goal.overflow_mul-product
+overflow_mul-product c =
     let xs = lists c.args.card.now in
     omega (arith, running_fits xs (drop (c.loop-input.input + 1) xs) (c.loop-input.product * (1 + c.times-later.result)) (omega (arith, length-lists c.args.card.now)) (more c))
 

@@ -14,8 +14,8 @@ counted c = c.times-fitting.ensures ∙ ap (λ x. times x (lists c.args.part.now
 fewer : (c : goal.After-times-fitting) → c.times-fitting.result ≤ c.args.part.now.inputs
 fewer c = omega (arith, counted c, times_others (list c.args.card.now c.loop-input.input) (lists c.args.part.now), length-lists c.args.part.now)
 
-pub overflow-sub-count : goal.overflow-sub-count
-overflow-sub-count c = fewer c
+pub overflow_sub-count : goal.overflow_sub-count
+overflow_sub-count c = fewer c
 
 pub loop-input-preserved : goal.loop-input-preserved
 loop-input-preserved c =

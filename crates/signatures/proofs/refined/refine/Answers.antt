@@ -5,8 +5,8 @@ use Rattle.signatures.proofs.Turns.{sum_more}
 use Rattle.signatures.proofs.refined.refine.Goals as goal
 use Rattle.signatures.proofs.refined.refine.Goals.{then-k-input, else-k-input}
 
-pub overflow-add-sum-then-k-input : goal.overflow-add-sum-then-k-input
-overflow-add-sum-then-k-input c =
+pub overflow_add-sum-then-k-input : goal.overflow_add-sum-then-k-input
+overflow_add-sum-then-k-input c =
     let k = c.loop-k.k in
     let few : c.args.below.now.inputs ≤ 10 = c.args.below.now.few in
     let s = product_small (get_or c.args.pairs.now k 0) (get_or (get_or c.args.below.now.answers k []) c.args.place 0) (c.requires.1.1 k c.loop-k-test.true c.if-k-input.true) in

@@ -18,8 +18,8 @@ pub stored-requires : goal.stored-requires
 stored-requires g c =
     (c.loop-k-test.true, (room c.args.self.now c.loop-k.k (length c.args.memory.now) c.slot-item.result c.in-Some.label c.loop-k-test.true c.in-Some.ensures.0 c.requires, c.in-Some.label.few))
 
-pub invariant-of-part : goal.invariant-of-part
-invariant-of-part g c =
+pub invariant_of-part : goal.invariant_of-part
+invariant_of-part g c =
     let fit = room c.args.self.now c.loop-k.k (length c.args.memory.now) c.slot-item.result c.in-Some.label c.loop-k-test.true c.in-Some.ensures.0 c.requires in
     (c.in-Some.label.few, (ap length c.stored.ensures ∙ front_size c.args.memory.now c.loop-k.k c.in-Some.label.inputs c.in-Some.label.few fit, tt))
 

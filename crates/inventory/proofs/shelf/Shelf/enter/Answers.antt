@@ -14,8 +14,8 @@ store-requires g c =
     let few = c.args.self.now.few in
     (omega arith, (omega arith, omega arith))
 
-pub invariant-of-self-2 : goal.invariant-of-self-2
-invariant-of-self-2 g c =
+pub invariant_of-self-2 : goal.invariant_of-self-2
+invariant_of-self-2 g c =
     let shelf = c.args.self.now in
     let room = c.in_ok-slot.ensures.1 in
     let few = shelf.few in

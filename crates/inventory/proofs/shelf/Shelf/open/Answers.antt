@@ -2,5 +2,5 @@ use Rattle.std.proofs.Common.{refl, arith}
 use Rattle.inventory.proofs.Labels.{all_free, unshared}
 use Rattle.inventory.proofs.shelf.Shelf.open.Goals as goal
 
-pub invariant-of-result : goal.invariant-of-result
-invariant-of-result c = (omega arith, (omega arith, (refl, ((λ k le. all_free 64 k), ((λ j k on. absurd (unshared _ _ (all_free 64 j) on)), tt)))))
+pub invariant_of-result : goal.invariant_of-result
+invariant_of-result c = (omega arith, (omega arith, (refl, ((λ k le. all_free 64 k), ((λ j k on. absurd (unshared _ _ (all_free 64 j) on)), tt)))))

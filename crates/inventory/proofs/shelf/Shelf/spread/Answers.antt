@@ -5,8 +5,8 @@ use Rattle.refusals.proofs.Dues.{past}
 use Rattle.inventory.proofs.Measuring.{slot_spreads}
 use Rattle.inventory.proofs.shelf.Shelf.spread.Goals as goal
 
-pub invariant-of-part : goal.invariant-of-part
-invariant-of-part g c =
+pub invariant_of-part : goal.invariant_of-part
+invariant_of-part g c =
     let slot = c.in_ok-slot.ensures.1.0 in
     let many = c.in_ok-check_memory.ensures.1 in
     let room : (c.in_ok-slot.slot + 1) * 1024 ≤ length c.args.memory.now = omega arith in

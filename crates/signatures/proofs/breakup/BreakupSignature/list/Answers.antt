@@ -18,8 +18,8 @@ returns-then-input-table g c = λ p. zeros 64 p ∙ sym (given_no_input 10 (brea
 pub loop-r-init : goal.loop-r-init
 loop-r-init g c = (refl, zeros 64, λ p le. zeros 64 p)
 
-pub overflow-sub-place : goal.overflow-sub-place
-overflow-sub-place g c = ones_some c.args.table.now.inputs c.args.input c.loop-r.r (omega (arith, c.loop-r-test.true, c.args.table.now.whole)) c.if-input-table.false c.if-r-input-eq1.true
+pub overflow_sub-place : goal.overflow_sub-place
+overflow_sub-place g c = ones_some c.args.table.now.inputs c.args.input c.loop-r.r (omega (arith, c.loop-r-test.true, c.args.table.now.whole)) c.if-input-table.false c.if-r-input-eq1.true
 
 -- a row of a table has at most ten bits set
 few_ones : (n r : ℕ) → n ≤ 10 → r < 2 ^ n → ones r ≤ 10
@@ -46,8 +46,8 @@ term_on weight rows i p r x on some e =
     (λ other. ap (λ t. cond t x 0) (ne_eqb (ones r) (p + 1) other ∙ sym (ne_eqb p (ones r - 1) (λ same. other (omega arith)))))
     (cases_eq (ones r) (p + 1))
 
-pub overflow-add-list : goal.overflow-add-list
-overflow-add-list g c =
+pub overflow_add-list : goal.overflow_add-list
+overflow_add-list g c =
     let table = c.args.table.now in
     let rows = table.rows.now in
     let q = ones c.loop-r.r - 1 in

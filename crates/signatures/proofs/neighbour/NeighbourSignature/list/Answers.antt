@@ -17,15 +17,15 @@ returns-then-input-table g c = λ p. zeros 64 p ∙ sym (given_no_input 3 (neigh
 pub loop-r-init : goal.loop-r-init
 loop-r-init g c = (refl, (λ p lp. zeros 64 p), λ p le. zeros 64 p)
 
-pub overflow-sub-r : goal.overflow-sub-r
-overflow-sub-r g c =
+pub overflow_sub-r : goal.overflow_sub-r
+overflow_sub-r g c =
     let table = c.args.table.now in
     let e = shift c.args.input 18446744073709551616 (omega (arith, c.if-input-table.false, table.few)) (omega arith) in
     let less = flip_less table.inputs c.args.input c.loop-r.r c.if-input-table.false (omega (arith, c.loop-r-test.true, table.whole)) c.if-r-input-eq1.true in
     omega arith
 
-pub overflow-add-list : goal.overflow-add-list
-overflow-add-list g c =
+pub overflow_add-list : goal.overflow_add-list
+overflow_add-list g c =
     let table = c.args.table.now in
     let q = c.in-Some.place in
     let t = term g.R.RowKind.same g.R.RowKind.weight table.rows.now c.args.input q in

@@ -13,8 +13,8 @@ returns-then-self c = λ h.
       | then-self-via-else-self+else-at-self+then-self-at way ↦ both_ways _ (c.args.self.now.unmarked c.args.pin h.2) way.if-self-at.true
     ]
 
-pub invariant-of-longer : goal.invariant-of-longer
-invariant-of-longer c =
+pub invariant_of-longer : goal.invariant_of-longer
+invariant_of-longer c =
     let x = c.args.self.now in
     let p = c.args.pin in
     let few : x.inputs ≤ 10 = x.few in
@@ -28,4 +28,4 @@ invariant-of-longer c =
     let kept = pins_kept x.pins x.len p in
     let new = pins_new x.pins x.len p long in
     let placed = placed_more x.inputs x.len p w u kept new (x.into, x.apart) low (λ i li e. both_ways _ c.if-self-at.false (ap (λ y. get_or x.used y false) (sym e) ∙ x.marked i li)) in
-    (few, (simp length-set x.whole, (omega arith, (placed.0, (placed.1, (rest_more x.pins x.len p x.rest, (marked_more x.inputs x.len p w u kept new x.used wide x.marked, (unmarked_more x.inputs x.len p w u kept new x.used wide x.unmarked, tt))))))))
+    record { few = few; whole = simp length-set x.whole; short = omega arith; into = placed.0; apart = placed.1; rest = rest_more x.pins x.len p x.rest; marked = marked_more x.inputs x.len p w u kept new x.used wide x.marked; unmarked = unmarked_more x.inputs x.len p w u kept new x.used wide x.unmarked }

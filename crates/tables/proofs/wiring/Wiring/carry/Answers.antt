@@ -10,8 +10,8 @@ use Rattle.tables.proofs.wiring.Wiring.carry.Goals.{then-row-i-eq1, else-row-i-e
 wires_of : (x : Wiring) → Wires x.inputs (pin x.pins)
 wires_of x = (x.into, x.apart)
 
-pub overflow-add-carried : goal.overflow-add-carried
-overflow-add-carried c =
+pub overflow_add-carried : goal.overflow_add-carried
+overflow_add-carried c =
     let x = c.args.self.now in
     let w = pin x.pins in
     let i = c.loop-i.i in
