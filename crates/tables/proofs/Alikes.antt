@@ -1,5 +1,5 @@
 -- A wiring is what it gives the inputs: what holds of one holds of another that gives each the same pin.
-use Rattle.std.proofs.Common.{◌≡◌, ℕ, Bool, List, sym, ap, ◌∙◌, arith}
+use Rattle.std.proofs.Common.{ℕ, Bool, List, sym, ap, ◌∙◌, arith}
 use Rattle.tables.specs.Agreement.{bit, Agree}
 use Rattle.tables.specs.Wirings.{Alike, Other, Before}
 

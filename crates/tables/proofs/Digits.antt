@@ -1,4 +1,4 @@
-use Rattle.std.proofs.Common.{◌≡◌, ℕ, zero, suc, ◌+◌, ◌-◌, ◌*◌, ◌/◌, ◌%◌, ◌^◌, ◌<◌, ◌≤◌, sym, refl, ap, ◌∙◌, subst, ⊎_elim, mod-lt, mod-eq_of_lt, mul_assoc, add_comm, pow-suc, one-add, arith, pow_pos, pow-add}
+use Rattle.std.proofs.Common.{◌≡◌, ℕ, zero, suc, ◌+◌, ◌-◌, ◌*◌, ◌/◌, ◌%◌, ◌^◌, ◌<◌, sym, ap, ◌∙◌, ⊎_elim, mod-lt, mod-eq_of_lt, mul_assoc, add_comm, pow-suc, one-add, arith, pow_pos, pow-add}
 use native.Mathlib.Nat.{mod-one, mul-add-div_right, mul-add-mod_self_right}
 use lib.Arith.{digits_lt, digits_div}
 use lib.Pow.{mod-pow-add}

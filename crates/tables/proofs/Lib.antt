@@ -9,3 +9,4 @@ pub mod Weights
 pub mod Reading
 pub mod Shifts
 pub mod Alikes
+pub mod AlikePins

@@ -1,10 +1,10 @@
-use Rattle.std.proofs.Common.{◌≡◌, ℕ, zero, suc, ◌+◌, ◌*◌, ◌^◌, ◌<◌, ◌≤◌, Bool, true, false, cond, eqb, List, length, get_or, Decides, sym, refl, ap, ◌∙◌, subst, ⊎_elim, arith, eq-eqb}
+use Rattle.std.proofs.Common.{◌≡◌, ℕ, ◌^◌, ◌<◌, Bool, true, false, cond, eqb, List, length, get_or, Decides, sym, refl, ap, ◌∙◌, ⊎_elim, arith, eq-eqb}
 use Rattle.std.proofs.lemmas.Bool.{cases_eq, ne_eqb, false≢true}
 use Rattle.tables.specs.Wirings.{Wires, Inverse}
 use Rattle.tables.specs.Agreement.{bit, Agree}
 use Rattle.tables.specs.Equivalence.{named, Equivalent}
 use Rattle.tables.specs.RowCheck.{Checked}
-use Rattle.tables.proofs.Digits.{number, bit_lt, number_lt, bit_number, bits_ext}
+use Rattle.tables.proofs.Digits.{bit_lt, number_lt, bit_number, bits_ext}
 use Rattle.tables.proofs.Onto.{back, back_into, there_back, back_there}
 
 abbrev digit : Bool → ℕ

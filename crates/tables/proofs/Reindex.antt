@@ -1,9 +1,9 @@
-use Rattle.std.proofs.Common.{◌≡◌, ℕ, zero, suc, ◌+◌, ◌*◌, ◌%◌, ◌^◌, ◌<◌, ◌≤◌, Bool, true, false, cond, List, [], ◌∷◌, map, length, get_or, sym, refl, ap, ◌∙◌, ⊎_elim, arith}
+use Rattle.std.proofs.Common.{◌≡◌, ℕ, ◌^◌, ◌<◌, Bool, true, List, [], ◌∷◌, map, length, get_or, sym, ap, ◌∙◌, arith}
 use Rattle.std.proofs.lemmas.List.{get_or-map}
 use Rattle.tables.specs.Sums.{sum_to, weighed}
 use Rattle.tables.specs.Wirings.{Wires}
 use Rattle.tables.specs.Agreement.{bit, Carried, Agree}
-use Rattle.tables.proofs.Sums.{sum_ext, sum_reindex}
+use Rattle.tables.proofs.Sums.{sum_reindex}
 use Rattle.tables.proofs.Digits.{number, bit_lt, number_lt, bit_number, bits_ext}
 use Rattle.tables.proofs.Onto.{back, back_into, there_back, back_there}
 

@@ -1,6 +1,6 @@
 use Rattle.std.proofs.Common.{◌≡◌, ℕ, ◌<◌, arith}
 use Rattle.tables.specs.Wirings.{pin}
-use Rattle.tables.proofs.Onto.{turned_inverse, turned_wires}
+use Rattle.tables.proofs.Onto.{turned_wires}
 use Rattle.tables.proofs.wiring.Wiring.inverse.Goals as goal
 
 all : (k n : ℕ) → n ≡ k → (w v : ℕ → ℕ) → ((i : ℕ) → i < k → v (w i) ≡ i) → (i : ℕ) → i < n → v (w i) ≡ i
