@@ -1,5 +1,5 @@
 -- The product of factorials, an input at a time.
-use Rattle.std.proofs.Common.{◌≡◌, ℕ, zero, suc, ◌+◌, ◌*◌, ◌^◌, ◌<◌, ◌≤◌, min, Bool, cond, eqb, ◌⊎◌, List, [], ◌∷◌, map, length, get_or, drop, sym, refl, ap, ◌∙◌, inl, inr, ⊎_elim, mul_assoc, mul-le-mul, mul-pos, one-mul, mul-one, le-mul_of_pos_right, mul_left_comm, one-add, arith}
+use Rattle.std.proofs.Common.{◌≡◌, ℕ, zero, suc, ◌+◌, ◌*◌, ◌^◌, ◌<◌, ◌≤◌, min, eqb, ◌⊎◌, List, [], ◌∷◌, map, length, get_or, drop, sym, refl, ap, ◌∙◌, inl, inr, ⊎_elim, mul_assoc, mul-le-mul, mul-pos, one-mul, mul-one, le-mul_of_pos_right, mul_left_comm, one-add, arith}
 use native.Mathlib.Nat.{mul-mul-mul_comm, pow-zero, pow-succ'}
 use Rattle.std.proofs.lemmas.List.{at_drop_more}
 use Rattle.std.proofs.lemmas.List.Sums.{count_by-le-length}

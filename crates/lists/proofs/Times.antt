@@ -1,9 +1,9 @@
 -- How often a list occurs.
 use Rattle.std.proofs.Common.{◌≡◌, ℕ, ◌+◌, ◌<◌, ◌≤◌, Bool, cond, not, eqb, ◌⊎◌, List, [], ◌∷◌, ◌++◌, length, get_or, drop, Decides, count_by, sym, refl, ap, ◌∙◌, subst, inl, inr, ⊎_elim, arith, rules}
-use Rattle.std.specs.Cmp.Lexicographic.{Matches}
-use Rattle.std.specs.List.{list_all, AllByRecursion as All}
+use Rattle.std.specs.Cmp.Lexicographic.{pointwise, bytes_decides}
+use Rattle.std.specs.List.{list_all}
 use Rattle.std.proofs.ByRecursion.{All-from_get_or, Decides-by_and}
-use Rattle.std.proofs.lemmas.Slice.Eq.{slice_eq-Decides, compares_Decides}
+use Rattle.std.proofs.lemmas.Slice.Eq.{compares_Decides}
 use Rattle.std.proofs.lemmas.List.Filters.{length-filter_both}
 use Rattle.std.proofs.lemmas.List.Sums.{sum_by-append, sum_by-cons, sum_by-drop_more, length-filter}
 use Rattle.std.proofs.lemmas.Bool.{cases_Bool, cases_eq, cases_lt, cond-true, cond-false}
@@ -17,8 +17,8 @@ pub equal_decides : (x y : List ℕ) → Decides (equal x y) (x ≡ y)
 equal_decides x y = compares_Decides equal (search rules) x y
 
 -- what `==` says of two lists
-pub equal_from_eq : (x y z : List ℕ) (r : Bool) → Matches (λ (a b : ℕ) (t : Bool). Decides t (a ≡ b)) x y r → y ≡ z → r ≡ equal x z
-equal_from_eq x y z r h e = same_from_decides r (equal x y) (slice_eq-Decides Decides-eqb x y r h) (equal_decides x y) ∙ ap (equal x) e
+pub equal_from_eq : (x y z : List ℕ) (r : Bool) → r ≡ pointwise eqb x y → y ≡ z → r ≡ equal x z
+equal_from_eq x y z r h e = h ∙ same_from_decides (pointwise eqb x y) (equal x y) (bytes_decides x y) (equal_decides x y) ∙ ap (equal x) e
 
 pub cases_list : (x y : List ℕ) → (x ≡ y) ⊎ (x ≡ y → ⊥)
 cases_list x y = ⊎_elim (λ t. inl ((equal_decides x y).0 t)) (λ f. inr (not_from_Decides (equal x y) (equal_decides x y) f)) (cases_Bool (equal x y))

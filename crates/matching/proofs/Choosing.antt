@@ -1,8 +1,7 @@
 -- The steps of the search: a pin more, a pin that no usable wiring goes on with, and the end.
-use Rattle.std.proofs.Common.{◌≡◌, ℕ, zero, suc, ◌+◌, ◌-◌, ◌*◌, ◌^◌, ◌<◌, ◌≤◌, Bool, true, false, ◌⊎◌, List, [], ◌∷◌, length, get_or, Some, None, Option, sym, refl, ap, ◌∙◌, subst, inl, inr, ⊎_elim, pow-suc, add-one, arith, pow_pos, pow_mono}
+use Rattle.std.proofs.Common.{◌≡◌, ℕ, suc, ◌+◌, ◌-◌, ◌^◌, ◌<◌, ◌≤◌, Bool, true, false, List, [], ◌∷◌, length, get_or, Some, None, Option, sym, ap, ◌∙◌, subst, inl, inr, ⊎_elim, pow-suc, add-one, arith, pow_pos, pow_mono}
 use Rattle.std.proofs.lemmas.Bool.{cases_eq, cases_lt, both_ways}
-use Rattle.tables.specs.Wirings.{pin, Placed, Wires, Alike, Before}
-use Rattle.tables.specs.Agreement.{Agree}
+use Rattle.tables.specs.Wirings.{pin, Placed, Wires, Alike}
 use Rattle.tables.specs.Carry.{carry}
 use Rattle.tables.specs.Making.{Extended}
 use Rattle.tables.specs.declared.partial_wiring.PartialWiring.{PartialWiring}
@@ -10,7 +9,7 @@ use Rattle.tables.specs.declared.table.Table.{Table}
 use Rattle.tables.specs.declared.wiring.Wiring.{Wiring}
 use Rattle.tables.proofs.Carries.{carry_ext, carry_low, carry_high, carry_up, carry_lt, agree_row, rows_agree}
 use Rattle.matching.specs.Struck.{struck}
-use Rattle.matching.specs.Search.{Usable, First, Found}
+use Rattle.matching.specs.Search.{Usable, Found}
 use Rattle.matching.specs.Begun.{Begun, Begins, Placing, Within, Settled, Differs, Kept}
 
 some : {R : Type 0} (xs : List R) → 0 < length xs → R

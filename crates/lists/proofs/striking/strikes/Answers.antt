@@ -2,7 +2,7 @@ use Rattle.std.proofs.Common.{not, sym, ap, ◌∙◌, arith}
 use Rattle.matching.specs.Struck.{struck}
 use Rattle.lists.proofs.Pairs.{unequal_here, unequal_not, unequal_so, upto_none, upto_pass, upto_strike, upto_row, upto_all}
 use Rattle.lists.proofs.striking.strikes.Goals as goal
-use Rattle.lists.proofs.striking.strikes.Goals.{then-not-is-equal, else-not-is-equal}
+use Rattle.lists.proofs.striking.strikes.Goals.{then-not-is_equal, else-not-is_equal}
 
 pub loop-input-init : goal.loop-input-init
 loop-input-init c = upto_none c.args.card.now c.args.part.now c.none-strikes.result.struck c.none-strikes.ensures
@@ -15,10 +15,10 @@ loop-pin-preserved c =
     let p = c.loop-pin.pin in
     let here = unequal_here card part i p c.is_equal.result c.loop-input-test.true c.loop-pin-test.true c.is_equal.ensures.value in
     elim c.if-not-is_equal.branch [
-      | then-not-is-equal way ↦ λ a b.
+      | then-not-is_equal way ↦ λ a b.
           ap (λ s. struck s.struck a b) way.strikes-is
           ∙ upto_strike card part i p c.loop-pin.strikes.struck way.strike.new.self.struck c.loop-pin.invariant (omega (arith, card.few)) (omega (arith, part.few)) way.strike.ensures (here ∙ ap not way.if-not-is_equal.true) a b
-      | else-not-is-equal way ↦ λ a b.
+      | else-not-is_equal way ↦ λ a b.
           ap (λ s. struck s.struck a b) way.strikes-is
           ∙ upto_pass card part i p c.loop-pin.strikes.struck c.loop-pin.invariant (here ∙ ap not way.if-not-is_equal.false) a b
     ]

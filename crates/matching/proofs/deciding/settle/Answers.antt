@@ -1,4 +1,4 @@
-use Rattle.std.proofs.Common.{◌≡◌, ℕ, ◌+◌, ◌*◌, ◌%◌, ◌^◌, ◌<◌, ◌≤◌, sym, ap, ◌∙◌, arith}
+use Rattle.std.proofs.Common.{◌≡◌, ℕ, ◌*◌, ◌%◌, ◌^◌, ◌<◌, sym, arith}
 use Rattle.tables.proofs.Shifts.{pow_small, shift}
 use Rattle.matching.proofs.Rows.{kept_more, settled_more}
 use Rattle.matching.proofs.deciding.settle.Goals as goal

@@ -1,4 +1,4 @@
-use Rattle.std.proofs.Common.{◌≡◌, ℕ, ◌+◌, ◌^◌, ◌<◌, ◌≤◌, true, false, length, get_or, sym, ap, ◌∙◌, subst, arith, pow_mono}
+use Rattle.std.proofs.Common.{◌≡◌, ◌+◌, ◌^◌, ◌<◌, ◌≤◌, false, length, sym, ap, ◌∙◌, subst, arith, pow_mono}
 use Rattle.matching.specs.Struck.{struck}
 use Rattle.matching.specs.Begun.{Settled, Differs, Kept}
 use Rattle.matching.proofs.Choosing.{pow_two, card_whole, part_whole, in_part, begun_more, differs_none}

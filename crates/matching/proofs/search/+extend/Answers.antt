@@ -1,9 +1,7 @@
-use Rattle.std.proofs.Common.{◌≡◌, ℕ, ◌+◌, ◌^◌, ◌<◌, ◌≤◌, get_or, sym, refl, ap, ◌∙◌, arith}
-use Rattle.tables.specs.declared.partial_wiring.PartialWiring.{PartialWiring}
-use Rattle.matching.specs.Begun.{Kept}
+use Rattle.std.proofs.Common.{◌≡◌, ℕ, ◌+◌, ◌^◌, ◌<◌, get_or, refl, ap, ◌∙◌, arith}
 use Rattle.matching.proofs.Choosing.{pow_two, whole, past_more, none_on, first_on, none_left}
 use Rattle.matching.proofs.search.+extend.Goals as goal
-use Rattle.matching.proofs.search.+extend.Goals.{in-Some-place+in-default-extend, in-default-place}
+use Rattle.matching.proofs.search.+extend.Goals.{in-Some-place+in_default-extend, in_default-place}
 
 -- what stands below 2^(k + 1) stands below 2^k too
 wider : (k m r : ℕ) → m ≡ k + 1 → r < 2 ^ k → r < 2 ^ m
@@ -36,14 +34,14 @@ loop-pin-preserved g t c =
     let begun = c.args.begun.now in
     let pin = c.loop-pin.pin in
     elim c.match-place.branch [
-      | in-Some-place+in-default-extend way ↦
+      | in-Some-place+in_default-extend way ↦
           let grown = way.in-Some-place.ensures.answer.0 in (
             (λ r lt. ap (λ l. get_or l r 0) way.carried-is ∙ way.extend.ensures.kept r (wider begun.len way.in-Some-place.longer.len r grown.1 lt) ∙ c.place.ensures.kept r lt ∙ c.loop-pin.invariant.0 r lt),
             past_more same card part strikes begun pin c.loop-pin.invariant.1 (none_on same card part strikes begun pin way.in-Some-place.longer grown way.in_default-extend.ensures.answer),
           )
-      | in-default-place way ↦ (
+      | in_default-place way ↦ (
         (λ r lt. ap (λ l. get_or l r 0) way.carried-is ∙ c.place.ensures.kept r lt ∙ c.loop-pin.invariant.0 r lt),
-        past_more same card part strikes begun pin c.loop-pin.invariant.1 way.in-default-place.ensures.answer,
+        past_more same card part strikes begun pin c.loop-pin.invariant.1 way.in_default-place.ensures.answer,
       )
     ]
 

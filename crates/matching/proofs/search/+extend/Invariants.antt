@@ -1,4 +1,4 @@
-use Rattle.std.proofs.Common.{◌≡◌, ℕ, ◌-◌, ◌^◌, ◌<◌}
+use Rattle.std.proofs.Common.{ℕ, ◌-◌, ◌^◌, ◌<◌}
 use Rattle.matching.specs.Search.{Usable}
 use Rattle.matching.specs.Begun.{Begins, Kept}
 use Rattle.matching.proofs.search.+extend.Given as goal

@@ -1,4 +1,4 @@
-use Rattle.std.proofs.Common.{◌≡◌, ◌^◌, ◌<◌, ◌≤◌, length, get_or, sym, ap, ◌∙◌, arith, pow_pos}
+use Rattle.std.proofs.Common.{get_or, sym, ap, ◌∙◌, arith, pow_pos}
 use Rattle.tables.specs.Sums.{weighed}
 use Rattle.tables.proofs.Reading.{same_inputs, same_rows}
 use Rattle.tables.proofs.Reindex.{total_there}

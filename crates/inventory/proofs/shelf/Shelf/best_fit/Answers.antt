@@ -9,7 +9,7 @@ use Rattle.inventory.specs.declared.shelf.Shelf.{Shelf}
 use Rattle.inventory.proofs.Choosing.{slot_read, in_use, front_size, slot_passed, slot_unfit, slot_taken, all_slots}
 use Rattle.inventory.proofs.shelf.Shelf.best_fit.Given as given
 use Rattle.inventory.proofs.shelf.Shelf.best_fit.Goals as goal
-use Rattle.inventory.proofs.shelf.Shelf.best_fit.Goals.{in-Some+in-Some-propose, in-Some+in-default-propose, in-default}
+use Rattle.inventory.proofs.shelf.Shelf.best_fit.Goals.{in-Some+in-Some-propose, in-Some+in_default-propose, in_default}
 
 room : (shelf : Shelf) (k size : ℕ) (x : Option Label) (label : Label) → k < 64 → get_or shelf.slots k x ≡ Some label → size ≡ shelf.count * 1024 → (k + 1) * 1024 ≤ size
 room shelf k size x label lt e whole = let used = in_use shelf k label (sym (slot_read shelf k x lt) ∙ e) in omega arith
@@ -70,16 +70,16 @@ loop-k-preserved g c =
           (slot_taken (same g c) (list g c) (shelf g c).slots (memory g c) (card g c).inputs (card g c).rows.now (pile g c) (shelf g c).once (k g c) c.loop-k.best c.loop-k.invariant label
           (sym (slot_is g c) ∙ worth.0) p found
           (λ q e. let named = found.1.named in let number = ap (λ x. x.number) found.1.stands in let lower = worth.2 q e in omega arith))
-      | in-Some+in-default-propose w ↦
+      | in-Some+in_default-propose w ↦
           let label = w.in-Some.label in
           subst (Now g c) (sym w.best-is)
           (slot_unfit (same g c) (list g c) (shelf g c).slots (memory g c) (card g c).inputs (card g c).rows.now (pile g c) (shelf g c).once (k g c) c.loop-k.best c.loop-k.invariant label
           (sym (slot_is g c) ∙ w.in-Some.ensures.0)
           (subst (λ rows. Here g c label rows None) w.stored.ensures w.in_default-propose.ensures))
-      | in-default w ↦
+      | in_default w ↦
           subst (Now g c) (sym w.best-is)
           (slot_passed (same g c) (list g c) (shelf g c).slots (memory g c) (card g c).inputs (card g c).rows.now (pile g c) (shelf g c).once (k g c) c.loop-k.best c.loop-k.invariant
-          (subst (λ s. Worth s (card g c).inputs c.loop-k.best None) (slot_is g c) w.in-default.ensures))
+          (subst (λ s. Worth s (card g c).inputs c.loop-k.best None) (slot_is g c) w.in_default.ensures))
     ]
 
 pub returns : goal.returns

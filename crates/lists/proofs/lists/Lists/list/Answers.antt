@@ -1,4 +1,4 @@
-use Rattle.std.proofs.Common.{◌≡◌, ℕ, ◌-◌, [], get_or, take, sym, ap, ◌∙◌, arith}
+use Rattle.std.proofs.Common.{[], get_or, take, sym, ap, ◌∙◌, arith}
 use Rattle.lists.proofs.Rows.{list_here, list_past}
 use Rattle.lists.proofs.lists.Lists.list.Goals as goal
 

@@ -1,4 +1,4 @@
-use Rattle.std.proofs.Common.{◌≡◌, ℕ, ◌<◌, ◌≤◌, false, List, [], length, get_or, sym, ap, ⊎_elim, arith}
+use Rattle.std.proofs.Common.{false, [], get_or, sym, ap, ⊎_elim, arith}
 use Rattle.std.proofs.lemmas.List.{get_or_past}
 use Rattle.matching.proofs.strikes.Strikes.is_struck.Goals as goal
 

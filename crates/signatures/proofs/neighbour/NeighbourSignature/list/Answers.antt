@@ -9,7 +9,7 @@ use Rattle.signatures.proofs.Places.{zeros}
 use Rattle.signatures.proofs.Neighbours.{term, term_small, term_is}
 use Rattle.signatures.proofs.Turns.{sum_more, sum_most, on_no, place_more}
 use Rattle.signatures.proofs.neighbour.NeighbourSignature.list.Goals as goal
-use Rattle.signatures.proofs.neighbour.NeighbourSignature.list.Goals.{then-r-input-eq1+in-Some, then-r-input-eq1+in-default, else-r-input-eq1}
+use Rattle.signatures.proofs.neighbour.NeighbourSignature.list.Goals.{then-r-input-eq1+in-Some, then-r-input-eq1+in_default, else-r-input-eq1}
 
 pub returns-then-input-table : goal.returns-then-input-table
 returns-then-input-table g c = λ p. zeros 64 p ∙ sym (given_no_input 3 (neighbour g.R.RowKind.same g.R.RowKind.weight) c.args.table.now.inputs c.args.table.now.rows.now c.args.input p c.if-input-table.true)
@@ -55,7 +55,7 @@ loop-r-preserved g c =
             (λ p lp. ap (λ l. get_or l p 0) way.list_is ∙ place_more list q 1 within p _ (sum_to (r + 1) (t p)) (c.loop-r.invariant.1 p lp) (sum_more r (t p) ∙ ap (λ y. sum_to r (t p) + y) (here p lp))),
             (λ p le. ap (λ l. get_or l p 0) way.list_is ∙ get_or-set_other list q p (get_or list q 0 + 1) 0 (λ same. omega (arith, low)) ∙ c.loop-r.invariant.2 p le),
           )
-      | then-r-input-eq1+in-default way ↦
+      | then-r-input-eq1+in_default way ↦
           let here : (p : ℕ) → p < 3 → t p r ≡ 0 = λ p lp.
           term_is same weight rows i p r _ way.index-table-r.result c.on-item.result way.if-r-input-eq1.true e c.loop-r-test.true c.on-item.is ∙ ap (λ b. cond b 1 0) (way.in_default.ensures p lp) in (
             ap length way.list_is ∙ c.loop-r.invariant.0,
