@@ -1,5 +1,5 @@
 -- What the two signatures of the literature count.
-use Rattle.std.proofs.Common.{◌≡◌, ℕ, zero, suc, ◌+◌, ◌-◌, ◌^◌, ◌<◌, ◌≤◌, Bool, true, false, cond, ◌&&◌, eqb, List, [], ◌∷◌, map, length, get_or, sum_by, sum, count_by, sym, refl, ap, ◌∙◌, ⊎_elim, add-one, arith, pow_mono, eq-eqb}
+use Rattle.std.proofs.Common.{◌≡◌, ℕ, zero, suc, ◌+◌, ◌-◌, ◌^◌, ◌≤◌, Bool, true, false, cond, ◌&&◌, eqb, List, map, get_or, sum, count_by, sym, refl, ap, ◌∙◌, ⊎_elim, add-one, arith, pow_mono, eq-eqb}
 use lib.Count.{ones, ones-le}
 use lib.ListN.{get_or-map}
 use Rattle.std.proofs.lemmas.List.FromFn.{sum_by-map-range_with_len_more}
@@ -13,7 +13,7 @@ use Rattle.tables.specs.Agreement.{bit}
 use Rattle.tables.specs.Sums.{sum_to}
 use Rattle.tables.proofs.Sums.{sum_ext, sum_swap, sum_zero, sum_single, at, at_yes, at_no}
 use Rattle.signatures.specs.Literature.{is_on, on_with, CofactorCounts, BreakupCounts, BreakupSums}
-use Rattle.signatures.specs.Values.{where_on, weight_at, cofactor, breakup}
+use Rattle.signatures.specs.Values.{where_on, weight_at}
 use Rattle.signatures.proofs.Ones.{ones_some}
 use Rattle.signatures.proofs.Turns.{on_yes, on_no}
 

@@ -1,13 +1,13 @@
 -- What the law says of the lists of two tables that agree.
-use Rattle.std.proofs.Common.{◌≡◌, ℕ, zero, suc, ◌+◌, ◌<◌, ◌≤◌, Bool, List, [], ◌∷◌, map, length, get_or, take, sym, refl, ap, ◌∙◌, arith, length-take}
+use Rattle.std.proofs.Common.{◌≡◌, ℕ, ◌<◌, Bool, List, [], map, length, get_or, take, sym, ap, ◌∙◌, arith, length-take}
 use native.Mathlib.Nat.{min-eq_left}
 use Rattle.std.proofs.lemmas.List.FromFn.{fill_by_all, length-range_with_len, get_or-range_with_len}
-use Rattle.std.proofs.lemmas.List.{get_or-map, get_or-take, ext_get_or, length-map}
+use Rattle.std.proofs.lemmas.List.{get_or-map, get_or-take, length-map}
 use Rattle.std.specs.List.{range_with_len as counting}
 use Rattle.lists.specs.Lists.{list, Keeps}
 use Rattle.lists.specs.declared.lists.Lists.{Lists}
 use Rattle.tables.specs.Agreement.{Agree}
-use Rattle.signatures.specs.Law.{given, list_of, GivesLists, Lawful}
+use Rattle.signatures.specs.Law.{list_of, GivesLists, Lawful}
 use Rattle.signatures.proofs.Asking.{given_yes}
 
 -- two lists of answers are equal where each answer is

@@ -1,8 +1,7 @@
 -- The law of each signature: a sum over the rows of a card is the sum over the rows that they are carried to.
-use Rattle.std.proofs.Common.{◌≡◌, ℕ, ◌+◌, ◌*◌, ◌%◌, ◌^◌, ◌<◌, Bool, true, false, cond, eqb, List, map, length, get_or, sym, refl, ap, ◌∙◌, ⊎_elim, arith, eq-eqb}
+use Rattle.std.proofs.Common.{◌≡◌, ℕ, ◌+◌, ◌*◌, ◌%◌, ◌^◌, ◌<◌, Bool, true, cond, eqb, List, sym, ap, ◌∙◌, ⊎_elim, eq-eqb}
 use lib.Count.{ones}
 use Rattle.std.proofs.lemmas.Bool.{cases_eq, ne_eqb}
-use Rattle.tables.specs.Sums.{sum_to}
 use Rattle.tables.specs.Agreement.{bit, Agree}
 use Rattle.tables.proofs.Sums.{sum_reindex}
 use Rattle.tables.proofs.Onto.{back, back_into, there_back, back_there}

@@ -1,11 +1,11 @@
 -- How many bits of a row are set.
-use Rattle.std.proofs.Common.{◌≡◌, ℕ, zero, suc, ◌+◌, ◌*◌, ◌/◌, ◌%◌, ◌^◌, ◌<◌, ◌≤◌, sym, refl, ap, ◌∙◌, ⊎_elim, mod-eq_of_lt, add_comm, arith, pow_pos}
+use Rattle.std.proofs.Common.{◌≡◌, ℕ, zero, suc, ◌+◌, ◌*◌, ◌^◌, ◌<◌, ◌≤◌, sym, ap, ◌∙◌, ⊎_elim, mod-eq_of_lt, add_comm, arith}
 use lib.Count.{ones, ones_cat}
-use Rattle.std.proofs.lemmas.Bool.{cases_eq, cases_lt}
+use Rattle.std.proofs.lemmas.Bool.{cases_eq}
 use Rattle.tables.specs.Sums.{sum_to}
 use Rattle.tables.specs.Wirings.{Wires}
 use Rattle.tables.specs.Agreement.{bit}
-use Rattle.tables.proofs.Sums.{sum_ext, sum_reindex}
+use Rattle.tables.proofs.Sums.{sum_reindex}
 use Rattle.tables.proofs.Digits.{number, number_lt, number_bits, bit_lt}
 use Rattle.tables.proofs.Onto.{back, back_into, there_back, back_there}
 use Rattle.tables.proofs.Reindex.{row_there, there_lt, carried}

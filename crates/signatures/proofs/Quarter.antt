@@ -1,7 +1,7 @@
 -- Two inputs are both on in a quarter of the rows, so what they share weighs at most 65,280.
-use Rattle.std.proofs.Common.{◌≡◌, ℕ, zero, suc, ◌+◌, ◌-◌, ◌*◌, ◌%◌, ◌^◌, ◌<◌, ◌≤◌, Bool, true, false, cond, eqb, List, sym, refl, ap, ◌∙◌, ⊎_elim, mod-lt, arith, pow_mono, eq-eqb}
+use Rattle.std.proofs.Common.{◌≡◌, ℕ, zero, suc, ◌+◌, ◌*◌, ◌%◌, ◌^◌, ◌<◌, ◌≤◌, List, sym, refl, ap, ◌∙◌, ⊎_elim, mod-lt, arith, pow_mono}
 use Rattle.std.proofs.lemmas.Nat.{mul-le}
-use Rattle.std.proofs.lemmas.Bool.{cases_eq, ne_eqb}
+use Rattle.std.proofs.lemmas.Bool.{cases_eq}
 use Rattle.tables.specs.Sums.{sum_to}
 use Rattle.tables.specs.Agreement.{bit}
 use Rattle.tables.proofs.Sums.{sum_ext, sum_add, sum_le}

@@ -1,4 +1,4 @@
-use Rattle.std.proofs.Common.{◌≡◌, ap, ◌∙◌, arith}
+use Rattle.std.proofs.Common.{ap, ◌∙◌, arith}
 use Rattle.tables.specs.Sums.{sum_to}
 use Rattle.signatures.specs.Values.{where_on, weight_at}
 use Rattle.signatures.proofs.Turns.{sum_more, on_yes, on_no, weight_is}

@@ -73,15 +73,15 @@ loop-r-preserved g c =
           let read = weight_is weight rows r c.row-item.result c.loop-r-test.true c.row-item.is ∙ sym way.weight.ensures in
           let q = ones r - 1 in
           let within : q < length list = omega (arith, c.loop-r.invariant.0, few) in (
-            ap length way.list_is ∙ length-set list q (get_or list q 0 + x) ∙ c.loop-r.invariant.0,
-            (λ p. ap (λ l. get_or l p 0) way.list_is
+            ap length way.list-is ∙ length-set list q (get_or list q 0 + x) ∙ c.loop-r.invariant.0,
+            (λ p. ap (λ l. get_or l p 0) way.list-is
                 ∙ place_more list q x within p _ (sum_to (r + 1) (term weight rows i p)) (c.loop-r.invariant.1 p) (sum_more r (term weight rows i p) ∙ ap (λ y. sum_to r (term weight rows i p) + y) (term_on weight rows i p r x on some read))),
-            (λ p le. ap (λ l. get_or l p 0) way.list_is ∙ get_or-set_other list q p (get_or list q 0 + x) 0 (λ e. omega (arith, few)) ∙ c.loop-r.invariant.2 p le),
+            (λ p le. ap (λ l. get_or l p 0) way.list-is ∙ get_or-set_other list q p (get_or list q 0 + x) 0 (λ e. omega (arith, few)) ∙ c.loop-r.invariant.2 p le),
           )
       | else-r-input-eq1 way ↦ (
-        ap length way.list_is ∙ c.loop-r.invariant.0,
-        (λ p. ap (λ l. get_or l p 0) way.list_is ∙ c.loop-r.invariant.1 p ∙ (let more = sum_more r (term weight rows i p) in let off = on_no i r (cond (eqb (ones r) (p + 1)) (weight_at weight rows r) 0) way.if-r-input-eq1.false in omega (arith, more, off))),
-        (λ p le. ap (λ l. get_or l p 0) way.list_is ∙ c.loop-r.invariant.2 p le),
+        ap length way.list-is ∙ c.loop-r.invariant.0,
+        (λ p. ap (λ l. get_or l p 0) way.list-is ∙ c.loop-r.invariant.1 p ∙ (let more = sum_more r (term weight rows i p) in let off = on_no i r (cond (eqb (ones r) (p + 1)) (weight_at weight rows r) 0) way.if-r-input-eq1.false in omega (arith, more, off))),
+        (λ p le. ap (λ l. get_or l p 0) way.list-is ∙ c.loop-r.invariant.2 p le),
       )
     ]
 

@@ -1,9 +1,9 @@
-use Rattle.std.proofs.Common.{◌≡◌, ℕ, ◌+◌, ◌-◌, ◌*◌, ◌%◌, ◌^◌, ◌<◌, ◌≤◌, cond, eqb, length, get_or, sym, refl, ap, ◌∙◌, arith, length-set, pow_mono}
+use Rattle.std.proofs.Common.{◌≡◌, ℕ, ◌+◌, ◌-◌, ◌^◌, ◌<◌, ◌≤◌, cond, eqb, length, get_or, sym, refl, ap, ◌∙◌, arith, length-set, pow_mono}
 use Rattle.std.proofs.lemmas.List.{get_or-set_other}
 use Rattle.tables.specs.Sums.{sum_to}
 use Rattle.tables.proofs.Shifts.{shift}
 use Rattle.signatures.specs.Values.{of_pair, compared, neighbour}
-use Rattle.signatures.proofs.Asking.{given_yes, given_no_input, given_no_place}
+use Rattle.signatures.proofs.Asking.{given_no_input}
 use Rattle.signatures.proofs.Flips.{flip_less}
 use Rattle.signatures.proofs.Places.{zeros}
 use Rattle.signatures.proofs.Neighbours.{term, term_small, term_is}
@@ -51,20 +51,20 @@ loop-r-preserved g c =
           let within : q < length list = omega (arith, c.loop-r.invariant.0) in
           let here : (p : ℕ) → p < 3 → t p r ≡ cond (eqb p q) 1 0 = λ p lp.
           term_is same weight rows i p r _ way.index-table-r.result c.on-item.result way.if-r-input-eq1.true e c.loop-r-test.true c.on-item.is ∙ ap (λ b. cond b 1 0) (way.in-Some.ensures.1 p lp) in (
-            ap length way.list_is ∙ length-set list q (get_or list q 0 + 1) ∙ c.loop-r.invariant.0,
-            (λ p lp. ap (λ l. get_or l p 0) way.list_is ∙ place_more list q 1 within p _ (sum_to (r + 1) (t p)) (c.loop-r.invariant.1 p lp) (sum_more r (t p) ∙ ap (λ y. sum_to r (t p) + y) (here p lp))),
-            (λ p le. ap (λ l. get_or l p 0) way.list_is ∙ get_or-set_other list q p (get_or list q 0 + 1) 0 (λ same. omega (arith, low)) ∙ c.loop-r.invariant.2 p le),
+            ap length way.list-is ∙ length-set list q (get_or list q 0 + 1) ∙ c.loop-r.invariant.0,
+            (λ p lp. ap (λ l. get_or l p 0) way.list-is ∙ place_more list q 1 within p _ (sum_to (r + 1) (t p)) (c.loop-r.invariant.1 p lp) (sum_more r (t p) ∙ ap (λ y. sum_to r (t p) + y) (here p lp))),
+            (λ p le. ap (λ l. get_or l p 0) way.list-is ∙ get_or-set_other list q p (get_or list q 0 + 1) 0 (λ same. omega (arith, low)) ∙ c.loop-r.invariant.2 p le),
           )
       | then-r-input-eq1+in_default way ↦
           let here : (p : ℕ) → p < 3 → t p r ≡ 0 = λ p lp.
           term_is same weight rows i p r _ way.index-table-r.result c.on-item.result way.if-r-input-eq1.true e c.loop-r-test.true c.on-item.is ∙ ap (λ b. cond b 1 0) (way.in_default.ensures p lp) in (
-            ap length way.list_is ∙ c.loop-r.invariant.0,
-            (λ p lp. ap (λ l. get_or l p 0) way.list_is ∙ c.loop-r.invariant.1 p lp ∙ (let more = sum_more r (t p) in omega (arith, more, here p lp))),
-            (λ p le. ap (λ l. get_or l p 0) way.list_is ∙ c.loop-r.invariant.2 p le),
+            ap length way.list-is ∙ c.loop-r.invariant.0,
+            (λ p lp. ap (λ l. get_or l p 0) way.list-is ∙ c.loop-r.invariant.1 p lp ∙ (let more = sum_more r (t p) in omega (arith, more, here p lp))),
+            (λ p le. ap (λ l. get_or l p 0) way.list-is ∙ c.loop-r.invariant.2 p le),
           )
       | else-r-input-eq1 way ↦ (
-        ap length way.list_is ∙ c.loop-r.invariant.0,
-        (λ p lp. ap (λ l. get_or l p 0) way.list_is ∙ c.loop-r.invariant.1 p lp ∙ (let more = sum_more r (t p) in omega (arith, more, on_no i r (of_pair (λ off on. cond (compared same weight p off on) 1 0) rows (r - 2 ^ i) r) way.if-r-input-eq1.false))),
-        (λ p le. ap (λ l. get_or l p 0) way.list_is ∙ c.loop-r.invariant.2 p le),
+        ap length way.list-is ∙ c.loop-r.invariant.0,
+        (λ p lp. ap (λ l. get_or l p 0) way.list-is ∙ c.loop-r.invariant.1 p lp ∙ (let more = sum_more r (t p) in omega (arith, more, on_no i r (of_pair (λ off on. cond (compared same weight p off on) 1 0) rows (r - 2 ^ i) r) way.if-r-input-eq1.false))),
+        (λ p le. ap (λ l. get_or l p 0) way.list-is ∙ c.loop-r.invariant.2 p le),
       )
     ]

@@ -1,4 +1,4 @@
-use Rattle.std.proofs.Common.{◌≡◌, ℕ, ◌-◌, ◌≤◌, cond, ltb, length, get_or, sym, ap, ◌∙◌, arith}
+use Rattle.std.proofs.Common.{◌≡◌, ◌-◌, cond, ltb, length, get_or, ap, ◌∙◌, arith}
 use Rattle.signatures.proofs.Piling.{piled_list}
 use Rattle.signatures.proofs.pile.PileSignature.list.Goals as goal
 

@@ -1,4 +1,4 @@
-use Rattle.std.proofs.Common.{◌≡◌, ℕ, ◌-◌, ◌<◌, ◌≤◌, cond, ltb, [], length, get_or, sym, ap, ◌∙◌, arith, length-set}
+use Rattle.std.proofs.Common.{◌≡◌, ◌-◌, ◌<◌, ◌≤◌, cond, ltb, [], length, get_or, ap, ◌∙◌, arith, length-set}
 use Rattle.signatures.specs.Law.{given}
 use Rattle.signatures.specs.Values.{piled, piled_count}
 use Rattle.signatures.proofs.Piling.{piled_list}

@@ -1,4 +1,4 @@
-use Rattle.std.proofs.Common.{◌≡◌, ◌+◌, ◌≤◌, min, ap, ◌∙◌, arith}
+use Rattle.std.proofs.Common.{◌+◌, min, ap, ◌∙◌, arith}
 use native.Mathlib.Nat.{min-le_right}
 use Rattle.signatures.proofs.Piling.{piled_lawful}
 use Rattle.signatures.proofs.pile.PileSignature.places.Goals as goal

@@ -1,4 +1,4 @@
-use Rattle.std.proofs.Common.{◌≡◌, ℕ, ◌<◌, ◌≤◌, length, ◌∙◌, arith, length-set}
+use Rattle.std.proofs.Common.{◌≡◌, ◌<◌, ◌≤◌, length, ◌∙◌, arith, length-set}
 use Rattle.signatures.specs.Law.{given}
 use Rattle.signatures.specs.Values.{refined}
 use Rattle.signatures.proofs.Places.{list_more, widths_more}
