@@ -1,15 +1,13 @@
 -- From the lists that a pile gives two tables to what it tells apart.
-use Rattle.std.proofs.Common.{◌≡◌, ℕ, ◌^◌, ◌<◌, ◌≤◌, Bool, true, false, not, ◌&&◌, ltb, List, [], ◌∷◌, map, length, get_or, take, sym, refl, ap, ◌∙◌, subst, inl, ⊎_elim, arith, length-take}
+use Rattle.std.proofs.Common.{◌≡◌, ℕ, ◌^◌, Bool, true, false, not, ◌&&◌, ltb, List, [], ◌∷◌, length, take, sym, refl, ap, ◌∙◌, subst, inl, ⊎_elim, arith, length-take}
 use native.Mathlib.Nat.{min-eq_left}
 use Rattle.std.proofs.lemmas.List.FromFn.{fill_by_all}
 use Rattle.std.proofs.lemmas.List.{length-map}
 use Rattle.std.proofs.lemmas.Bool.{cases_lt, le-ltb}
-use Rattle.std.specs.List.{range_with_len}
-use Rattle.lists.specs.Counting.{Mem, Apart, AtMost}
+use Rattle.lists.specs.Counting.{AtMost}
 use Rattle.lists.specs.Lists.{list, lists, equal, Keeps}
 use Rattle.lists.specs.Pairs.{unequal}
 use Rattle.lists.specs.declared.lists.Lists.{Lists}
-use Rattle.matching.specs.Struck.{Spared}
 use Rattle.signatures.specs.Law.{list_of, GivesLists, Lawful}
 use Rattle.signatures.proofs.Kept.{list_is, keeps}
 use Rattle.tables.specs.Agreement.{Agree}

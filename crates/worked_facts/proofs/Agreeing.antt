@@ -6,7 +6,7 @@ use Rattle.rows.specs.declared.on_off.OnOff.{OnOff}
 use Rattle.rows.specs.declared.on_off.OnOff.TheVariants.{Off}
 use Rattle.rows.specs.Kinds.{on_off_same}
 use Rattle.tables.specs.Wirings.{pin, Wires, Alike}
-use Rattle.tables.specs.Agreement.{bit, Agree}
+use Rattle.tables.specs.Agreement.{Agree}
 use Rattle.tables.specs.Carry.{carry}
 use Rattle.tables.proofs.Alikes.{agree_alike}
 use Rattle.tables.proofs.Carries.{carry_lt, agree_row, rows_agree}
