@@ -13,6 +13,7 @@ use refusals::Refusal;
 use runs::{Answer, Grant};
 use signatures::{Breakup, Cofactor, Pile, Refined};
 use std::env;
+use std::process::ExitCode;
 use typed::Typed;
 
 const USAGE: &str = "usage: refit CARD PART..
@@ -107,10 +108,9 @@ fn run(rt: &HostRuntime) -> Result<(), Failure> {
     refit(rt, &card, parts.as_slice())
 }
 
-fn main(rt: HostRuntime) -> Result<(), Failure> {
-    let result = run(&rt);
-    match &result {
-        Ok(()) => {}
+fn main(rt: HostRuntime) -> ExitCode {
+    match run(&rt) {
+        Ok(()) => return ExitCode::SUCCESS,
         Err(Failure::Usage) => {
             let _ = eprintln!(rt; "{USAGE}");
         }
@@ -118,5 +118,5 @@ fn main(rt: HostRuntime) -> Result<(), Failure> {
             let _ = eprintln!(rt; "refit: {failure}");
         }
     }
-    result
+    ExitCode::FAILURE
 }

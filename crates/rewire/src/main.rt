@@ -11,6 +11,7 @@ use reading::{inputs_for, rows_from};
 use rows::OnOff;
 use signatures::{Breakup, Cofactor, Pile, Refined};
 use std::env;
+use std::process::ExitCode;
 use tables::{Table, Wiring};
 
 const USAGE: &str = "usage: rewire CARD PART
@@ -73,7 +74,7 @@ fn run(rt: &HostRuntime) -> Result<(), Failure> {
         return Err(Failure::Usage);
     };
     let Some(second) = args.next() else {
-        if first == "--help" {
+        if first.as_str() == "--help" {
             println!(rt; "{USAGE}")?;
             return Ok(());
         }
@@ -85,10 +86,9 @@ fn run(rt: &HostRuntime) -> Result<(), Failure> {
     rewire(rt, &first, &second)
 }
 
-fn main(rt: HostRuntime) -> Result<(), Failure> {
-    let result = run(&rt);
-    match &result {
-        Ok(()) => {}
+fn main(rt: HostRuntime) -> ExitCode {
+    match run(&rt) {
+        Ok(()) => return ExitCode::SUCCESS,
         Err(Failure::Usage) => {
             let _ = eprintln!(rt; "{USAGE}");
         }
@@ -96,5 +96,5 @@ fn main(rt: HostRuntime) -> Result<(), Failure> {
             let _ = eprintln!(rt; "rewire: {failure}");
         }
     }
-    result
+    ExitCode::FAILURE
 }

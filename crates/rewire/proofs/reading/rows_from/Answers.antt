@@ -21,7 +21,7 @@ returns-in_default c = (
 )
 
 pub returns-in_err-push : goal.returns-in_err-push
-returns-in_err-push c = let p = err_from_is_err_and c.from-residual.result c.from-residual.ensures.1 in rw (p.1, p.2) tt
+returns-in_err-push c = let p = err_from_is_err_and c.from_residual.result c.from_residual.ensures.1 in rw (p.1, p.2) tt
 
 pub loop-byte-preserved : goal.loop-byte-preserved
 loop-byte-preserved c =

@@ -8,7 +8,7 @@ returns-then-total_weight-weight g c =
 
 pub returns-in_err-wiring : goal.returns-in_err-wiring
 returns-in_err-wiring g c =
-    rw c.from-residual.ensures
+    rw c.from_residual.ensures
     (none_proposed g.R.RowKind.same g.P.Signature.count g.P.Signature.value c.args.pile.now c.lists-part_lists.ensures.lawful c.args.card.now c.args.part.now c.requires.size c.args.lists.now c.lists-part_lists.result c.requires.lists c.lists-part_lists.ensures.gives c.strikes-apart.result.struck c.strikes-apart.ensures.spares c.args.label.number c.in_err-wiring.ensures)
 
 pub invariant_of-result : goal.invariant_of-result
