@@ -1,5 +1,5 @@
 -- What is written into row memory, and where.
-use Rattle.std.proofs.Common.{◌≡◌, ℕ, ◌+◌, ◌-◌, ◌*◌, ◌%◌, ◌^◌, ◌<◌, ◌≤◌, List, [], ◌∷◌, ◌++◌, length, get_or, take, drop, set, sym, ap, ◌∙◌, append_assoc, mod-eq_of_lt, one-mul, add-one, arith, length-drop, take-append-drop, length-take-le, drop-cons, drop-drop, pow_mono}
+use Rattle.std.proofs.Common.{◌≡◌, ℕ, ◌+◌, ◌*◌, ◌%◌, ◌^◌, ◌<◌, ◌≤◌, List, [], ◌∷◌, ◌++◌, length, get_or, take, drop, set, sym, ap, ◌∙◌, append_assoc, mod-eq_of_lt, one-mul, add-one, arith, length-drop, take-append-drop, length-take-le, drop-cons, drop-drop, pow_mono}
 use lib.Seq.{set_at, drop-append-le}
 use Rattle.std.proofs.lemmas.List.{take_more}
 use borrow.Rule.Slice.PartMut.{put_mid, mid_of}

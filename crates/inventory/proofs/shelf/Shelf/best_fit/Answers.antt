@@ -21,7 +21,7 @@ stored-requires g c =
 pub invariant_of-part : goal.invariant_of-part
 invariant_of-part g c =
     let fit = room c.args.self.now c.loop-k.k (length c.args.memory.now) c.slot-item.result c.in-Some.label c.loop-k-test.true c.in-Some.ensures.0 c.requires in
-    (c.in-Some.label.few, (ap length c.stored.ensures ∙ front_size c.args.memory.now c.loop-k.k c.in-Some.label.inputs c.in-Some.label.few fit, tt))
+    record { few = c.in-Some.label.few; whole = ap length c.stored.ensures ∙ front_size c.args.memory.now c.loop-k.k c.in-Some.label.inputs c.in-Some.label.few fit }
 
 pub loop-k-init : goal.loop-k-init
 loop-k-init g c = λ part w held serves. let lt = held.1 in omega arith

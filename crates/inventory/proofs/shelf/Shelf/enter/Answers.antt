@@ -20,7 +20,7 @@ invariant_of-self-2 g c =
     let room = c.in_ok-slot.ensures.1 in
     let few = shelf.few in
     let slot : c.in_ok-slot.slot < length shelf.slots = subst (λ n. c.in_ok-slot.slot < n) (sym shelf.whole) (omega (arith, room.0)) in
-    (shelf.some, (shelf.few, (simp length-set shelf.whole, (put_past shelf.slots c.in_ok-slot.slot shelf.count _ room.0 shelf.past, (put_once shelf.slots c.in_ok-slot.slot _ slot room.2 shelf.once, tt)))))
+    record { some = shelf.some; few = shelf.few; whole = simp length-set shelf.whole; past = put_past shelf.slots c.in_ok-slot.slot shelf.count _ room.0 shelf.past; once = put_once shelf.slots c.in_ok-slot.slot _ slot room.2 shelf.once }
 
 pub returns : goal.returns
 returns g c =

@@ -10,7 +10,7 @@ invariant_of-part g c =
     let slot = c.in_ok-slot.ensures.1.0 in
     let many = c.in_ok-check_memory.ensures.1 in
     let room : (c.in_ok-slot.slot + 1) * 1024 ≤ length c.args.memory.now = omega arith in
-    (c.in-Some.label.few, (ap length c.stored.ensures ∙ front_size c.args.memory.now c.in_ok-slot.slot c.in-Some.label.inputs c.in-Some.label.few room, tt))
+    record { few = c.in-Some.label.few; whole = ap length c.stored.ensures ∙ front_size c.args.memory.now c.in_ok-slot.slot c.in-Some.label.inputs c.in-Some.label.few room }
 
 pub returns : goal.returns
 returns g c =

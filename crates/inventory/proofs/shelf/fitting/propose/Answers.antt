@@ -12,7 +12,7 @@ returns-in_err-wiring g c =
     (none_proposed g.R.RowKind.same g.P.Signature.count g.P.Signature.value c.args.pile.now c.lists-part_lists.ensures.lawful c.args.card.now c.args.part.now c.requires.size c.args.lists.now c.lists-part_lists.result c.requires.lists c.lists-part_lists.ensures.gives c.strikes-apart.result.struck c.strikes-apart.ensures.spares c.args.label.number c.in_err-wiring.ensures)
 
 pub invariant_of-result : goal.invariant_of-result
-invariant_of-result g c = (c.args.label.numbered, (struck_most c.args.lists.now c.lists-part_lists.result c.struck_count-struck.result c.struck_count-struck.ensures, tt))
+invariant_of-result g c = record { numbered = c.args.label.numbered; few = struck_most c.args.lists.now c.lists-part_lists.result c.struck_count-struck.result c.struck_count-struck.ensures }
 
 pub returns : goal.returns
 returns g c = (
