@@ -95,7 +95,7 @@ fn run(rt: &HostRuntime) -> Result<(), Failure> {
     let Some(first) = args.next() else {
         return Err(Failure::Usage);
     };
-    if first == "--help" {
+    if first.as_str() == "--help" {
         println!(rt; "{USAGE}")?;
         return Ok(());
     }
