@@ -3,8 +3,8 @@ ghost use Rattle.inventory.specs.Slots.{share};
 
 use crate::label::Label;
 
-mod fitting;
 mod opening;
+mod selecting;
 mod slots;
 mod spreading;
 mod stocking;

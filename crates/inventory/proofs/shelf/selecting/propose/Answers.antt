@@ -1,6 +1,6 @@
 use Rattle.ledger.specs.Law.{list_by}
 use Rattle.inventory.proofs.Proposing.{none_proposed, one_proposed, struck_most, unlike_weights}
-use Rattle.inventory.proofs.shelf.fitting.propose.Goals as goal
+use Rattle.inventory.proofs.shelf.selecting.propose.Goals as goal
 
 pub returns-then-total_weight-weight : goal.returns-then-total_weight-weight
 returns-then-total_weight-weight g c =

@@ -1,6 +1,6 @@
 use Rattle.std.proofs.Common.{sym, ap, ◌∙◌, arith}
 use Rattle.inventory.proofs.Labels.{same_label}
-use Rattle.inventory.proofs.shelf.fitting.worth.Goals as goal
+use Rattle.inventory.proofs.shelf.selecting.worth.Goals as goal
 
 pub returns-in-Some : goal.returns-in-Some
 returns-in-Some c = λ label is sized.
