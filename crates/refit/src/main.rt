@@ -1,16 +1,16 @@
 #![tactic(auto)]
 
 mod failure;
-mod matching;
 mod reading;
+mod shelving;
 mod typed;
 
 use failure::{Failure, Side};
 use inventory::Proposal;
-use matching::answers_for;
 use reading::table_from;
 use refusals::Refusal;
 use runs::{Answer, Grant};
+use shelving::answers_for;
 use signatures::{Breakup, Cofactor, Pile, Refined};
 use std::env;
 use std::process::ExitCode;

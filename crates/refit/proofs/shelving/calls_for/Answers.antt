@@ -3,7 +3,7 @@ use Rattle.std.proofs.lemmas.List.{map_push}
 use Rattle.runs.specs.Transcript.{said}
 use Rattle.refit.specs.Asking.{asked}
 use Rattle.refit.proofs.Asked.{enter_more, fit_last}
-use Rattle.refit.proofs.matching.calls_for.Goals as goal
+use Rattle.refit.proofs.shelving.calls_for.Goals as goal
 
 pub loop-k-preserved : goal.loop-k-preserved
 loop-k-preserved g c =

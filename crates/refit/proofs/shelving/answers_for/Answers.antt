@@ -3,7 +3,7 @@ use Rattle.std.proofs.lemmas.List.{length-map}
 use Rattle.ledger.specs.Law.{list_by}
 use Rattle.runs.specs.Transcript.{said}
 use Rattle.refit.proofs.Asked.{answered_all}
-use Rattle.refit.proofs.matching.answers_for.Goals as goal
+use Rattle.refit.proofs.shelving.answers_for.Goals as goal
 
 pub returns-in-Ok : goal.returns-in-Ok
 returns-in-Ok g c =
