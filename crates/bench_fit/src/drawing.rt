@@ -51,7 +51,8 @@ fn unlike(rows: &Rows, row: usize) -> Option<usize>
 
 // The table with two rows exchanged, over so many turns.
 fn exchanged(rows: &Rows, a: usize, b: usize, turns: usize) -> Rows
-    requires { (a < 1024) × (b < 1024) }
+    requires a_in { a < 1024 }
+    requires b_in { b < 1024 }
 {
     let mut other = *rows;
     let mut a = a;

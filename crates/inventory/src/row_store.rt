@@ -15,7 +15,9 @@ fn copy_rows<R: RowKind>(stretch: &mut [R], rows: &[R])
 
 // Writes rows into the front of a slot's stretch of 1,024 rows.
 pub fn store<R: RowKind>(memory: &mut [R], slot: usize, rows: &[R])
-    requires { (slot < 64) × (((slot + 1) * 1024 ≤ length memory.old) × (length rows.now ≤ 1024)) }
+    requires slot_few { slot < 64 }
+    requires stretch_in { (slot + 1) * 1024 ≤ length memory.old }
+    requires rows_fit { length rows.now ≤ 1024 }
     ensures { memory.new ≡ written memory.old (slot * 1024) rows.now }
 {
     let start = slot * 1024;
@@ -24,7 +26,9 @@ pub fn store<R: RowKind>(memory: &mut [R], slot: usize, rows: &[R])
 
 // The rows of a slot's part: the front of its stretch.
 pub fn stored<R: RowKind>(memory: &[R], slot: usize, inputs: usize) -> &[R]
-    requires { (slot < 64) × (((slot + 1) * 1024 ≤ length memory.now) × (inputs ≤ 10)) }
+    requires slot_few { slot < 64 }
+    requires stretch_in { (slot + 1) * 1024 ≤ length memory.now }
+    requires inputs_few { inputs ≤ 10 }
     ensures { result.now ≡ front memory.now slot inputs }
 {
     let start = slot * 1024;

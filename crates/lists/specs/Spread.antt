@@ -1,4 +1,4 @@
-use Rattle.std.specs.Prelude.{ℕ, zero, suc, ◌*◌, Bool, cond, List, [], ◌∷◌, ◌++◌, map, count_by, ◌==◌, nat_eq}
+use Rattle.std.specs.Prelude.{ℕ, zero, suc, ◌*◌, Bool, if◌then◌else◌, List, [], ◌∷◌, ◌++◌, map, count_by, ◌==◌, nat_eq}
 use Rattle.std.specs.List.{list_all}
 use Rattle.lists.specs.Lists.{equal}
 
@@ -13,7 +13,7 @@ level inputs pins = list_all (λ x. nat_eq (times x inputs) (times x pins)) (inp
 -- the lists that occur, each once
 abbrev pub once : List (List ℕ) → List (List ℕ)
 once [] = []
-once (x ∷ xs) = cond (times x xs == 0) (x ∷ once xs) (once xs)
+once (x ∷ xs) = if times x xs == 0 then x ∷ once xs else once xs
 
 abbrev pub factorial : ℕ → ℕ
 factorial zero = 1
@@ -26,4 +26,4 @@ product (x ∷ xs) = x * product xs
 -- the product, over the lists that occur, of the factorial of how often, which is 1 where none occurs; 0 unless each
 -- occurs as often on both sides
 abbrev pub spread : List (List ℕ) → List (List ℕ) → ℕ
-spread inputs pins = cond (level inputs pins) (product (map (λ x. factorial (times x inputs)) (once inputs))) 0
+spread inputs pins = if level inputs pins then product (map (λ x. factorial (times x inputs)) (once inputs)) else 0

@@ -12,7 +12,11 @@ pub fn settle<R: RowKind>(
     pin: usize,
     carried: &mut [u16; 1024],
 ) -> bool
-    requires { (input < 10) × ((pin < 10) × ((2 ^ input + 2 ^ input ≤ length card.now) × ((length part.now ≤ 1024) × (((r : ℕ) → r < 2 ^ input → slice_index carried.old r + 2 ^ pin < length part.now))))) }
+    requires input_few { input < 10 }
+    requires pin_few { pin < 10 }
+    requires both_halves { 2 ^ input + 2 ^ input ≤ length card.now }
+    requires part_small { length part.now ≤ 1024 }
+    requires targets { (r : ℕ) → r < 2 ^ input → slice_index carried.old r + 2 ^ pin < length part.now }
     ensures kept { Kept (2 ^ input) carried.old carried.new }
     ensures settled { result ≡ true → Settled R.RowKind.same card.now part.now (2 ^ input) (2 ^ input) (2 ^ pin) carried.old carried.new }
     ensures differs { result ≡ false → Differs R.RowKind.same card.now part.now (2 ^ input) (2 ^ pin) carried.old }

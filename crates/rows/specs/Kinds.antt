@@ -1,4 +1,4 @@
-use Rattle.std.specs.Prelude.{Bool, true, false, ◌&&◌, ◌||◌, ℕ, ◌+◌, eqb}
+use Rattle.std.specs.Prelude.{Bool, true, false, ◌&&◌, ◌||◌, ℕ, ◌+◌, ◌==◌}
 use Rattle.rows.specs.declared.on_off.OnOff.{OnOff}
 use Rattle.rows.specs.declared.on_off.OnOff.TheVariants.{Off, On}
 use Rattle.rows.specs.declared.drive.Drive.{Drive}
@@ -25,8 +25,8 @@ code Right = 2
 -- both rest, or both go one way for as long
 abbrev pub drive_same : Drive → Drive → Bool
 drive_same x y =
-    (eqb (code x.direction) 0 && eqb (code y.direction) 0)
-    || (eqb (code x.direction) (code y.direction) && eqb x.hold y.hold)
+    (code x.direction == 0 && code y.direction == 0)
+    || (code x.direction == code y.direction && x.hold == y.hold)
 
 -- a rest weighs nothing; a right weighs more than any left
 abbrev pub weight_of : Direction → ℕ → ℕ

@@ -1,4 +1,4 @@
-use Rattle.std.specs.Prelude.{◌≡◌, ℕ, ◌^◌, ◌<◌, Bool, cond, ◌&&◌, List, [], map, length, ◌==◌, nat_le, nat_lt, slice_index, slice_index_or}
+use Rattle.std.specs.Prelude.{◌≡◌, ℕ, ◌^◌, ◌<◌, Bool, if◌then◌else◌, ◌&&◌, List, [], map, length, ◌==◌, nat_le, nat_lt, slice_index, slice_index_or}
 use Rattle.std.specs.List.{range_with_len}
 use Rattle.lists.specs.declared.lists.Lists.{Lists}
 use Rattle.tables.specs.Agreement.{Agree}
@@ -11,11 +11,11 @@ module _ {R : Type 0} (count : ℕ) (value : ℕ → List R → ℕ → ℕ → 
 
   -- 0 where there is no such input or place
   abbrev pub given : ℕ → List R → ℕ → ℕ → ℕ
-  given n rows i p = cond (nat_lt i n && nat_lt p count) (value n rows i p) 0
+  given n rows i p = if nat_lt i n && nat_lt p count then value n rows i p else 0
 
   -- 0 also where the rows are no table of n inputs
   abbrev pub asked : ℕ → List R → ℕ → ℕ → ℕ
-  asked n rows i p = cond (nat_le n 10 && length rows == 2 ^ n) (given n rows i p) 0
+  asked n rows i p = if nat_le n 10 && length rows == 2 ^ n then given n rows i p else 0
 
   -- the lists of a table's inputs
   pub record GivesLists (n : ℕ) (rows : List R) (lists : Lists) : Type 0 where

@@ -1,15 +1,15 @@
 -- What each signature answers, for a table of n inputs, an input i and a place p.
-use Rattle.std.specs.Prelude.{ℕ, zero, suc, ◌+◌, ◌-◌, ◌*◌, ◌%◌, ◌^◌, min, Bool, cond, List, [], ◌∷◌, map, drop, ◌==◌, count_ones, nat_lt, slice_index}
+use Rattle.std.specs.Prelude.{ℕ, zero, suc, ◌+◌, ◌-◌, ◌*◌, ◌%◌, ◌^◌, min, Bool, if◌then◌else◌, List, [], ◌∷◌, map, drop, ◌==◌, count_ones, nat_lt, slice_index}
 use Rattle.tables.specs.Sums.{sum_to}
 use Rattle.tables.specs.Agreement.{bit}
 
 -- x where bit i of r is 1, and else 0
 abbrev pub where_on : ℕ → ℕ → ℕ → ℕ
-where_on i r x = cond (bit i r == 1) x 0
+where_on i r x = if bit i r == 1 then x else 0
 
 -- over all inputs but i: what pairs it with i, times what its answer gives
 abbrev pub refined_sum : ℕ → ℕ → (ℕ → ℕ) → (ℕ → ℕ) → ℕ
-refined_sum n i pair answer = sum_to n (λ k. cond (k == i) 0 (pair k * (1 + answer k % 4096)))
+refined_sum n i pair answer = sum_to n (λ k. if k == i then 0 else pair k * (1 + answer k % 4096))
 
 module _ {R : Type 0} (weight : R → ℕ) where
   -- the weight of row r
@@ -22,7 +22,7 @@ module _ {R : Type 0} (weight : R → ℕ) where
 
   -- the same over those of them that have exactly p + 1 bits set
   abbrev pub breakup : ℕ → List R → ℕ → ℕ → ℕ
-  breakup n rows i p = sum_to (2 ^ n) (λ r. where_on i r (cond (count_ones r == p + 1) (weight_at rows r) 0))
+  breakup n rows i p = sum_to (2 ^ n) (λ r. where_on i r (if count_ones r == p + 1 then weight_at rows r else 0))
 
   -- the sum of the weights over the rows whose bits i and k are both 1
   abbrev pub paired : ℕ → List R → ℕ → ℕ → ℕ
@@ -49,7 +49,7 @@ module _ {R : Type 0} (same : R → R → Bool) (weight : R → ℕ) where
 
   -- over the pairs of rows that differ only in bit i, how many compare so
   abbrev pub neighbour : ℕ → List R → ℕ → ℕ → ℕ
-  neighbour n rows i p = sum_to (2 ^ n) (λ r. where_on i r (of_pair (λ off on. cond (compared p off on) 1 0) rows (r - 2 ^ i) r))
+  neighbour n rows i p = sum_to (2 ^ n) (λ r. where_on i r (of_pair (λ off on. if compared p off on then 1 else 0) rows (r - 2 ^ i) r))
 
 -- the places of two, cut off after 64
 abbrev pub piled_count : ℕ → ℕ → ℕ
@@ -57,4 +57,4 @@ piled_count a b = min (a + b) 64
 
 -- the first's answer at its a places, and the second's from there on
 abbrev pub piled : {R : Type 0} → ℕ → (ℕ → List R → ℕ → ℕ → ℕ) → (ℕ → List R → ℕ → ℕ → ℕ) → ℕ → List R → ℕ → ℕ → ℕ
-piled a first second n rows i p = cond (nat_lt p a) (first n rows i p) (second n rows i (p - a))
+piled a first second n rows i p = if nat_lt p a then first n rows i p else second n rows i (p - a)

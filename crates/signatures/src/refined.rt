@@ -1,4 +1,4 @@
-ghost use Rattle.std.specs.Prelude.{◌≡◌, ℕ, ◌<◌, ◌≤◌, ◌&&◌, ltb, [], if◌then◌else◌, ◌≢◌, nat_lt, slice_index, slice_index_or};
+ghost use Rattle.std.specs.Prelude.{◌≡◌, ℕ, ◌<◌, ◌≤◌, ◌&&◌, [], if◌then◌else◌, ◌≢◌, nat_lt, slice_index, slice_index_or};
 ghost use Rattle.signatures.specs.Values.{paired, refined, refined_sum};
 
 use crate::signature::Signature;
@@ -8,7 +8,8 @@ use tables::Table;
 
 // The sum of the weights over the rows whose bits of both inputs are 1.
 fn weight_on_both<R: RowKind>(table: &Table<R>, input: usize, other: usize) -> u32
-    requires { (input < table.now.inputs) × (other < table.now.inputs) }
+    requires input_in { input < table.now.inputs }
+    requires other_in { other < table.now.inputs }
     ensures { result ≡ paired R.RowKind.weight table.now.inputs table.now.rows.now input other }
 {
     let mut sum = 0;
@@ -34,7 +35,9 @@ fn pair_weights<R: RowKind>(table: &Table<R>, input: usize) -> [u32; 10]
 // One answer, from the weights that the input shares with each other input and from their answers below. A weight is at
 // most a quarter of 1,024 rows of 255, so that the sum is at most 9 × 65,280 × 4,096 = 2,406,481,920.
 fn refine(below: &Lists, pairs: &[u32; 10], input: usize, place: usize) -> u32
-    requires { (input < below.now.inputs) × ((place < 64) × (((k : ℕ) → k < below.now.inputs → (k ≢ input) → slice_index pairs.now k ≤ 65280))) }
+    requires input_in { input < below.now.inputs }
+    requires place_in { place < 64 }
+    requires light { (k : ℕ) → k < below.now.inputs → k ≢ input → slice_index pairs.now k ≤ 65280 }
     ensures { result ≡ refined_sum below.now.inputs input (λ k. slice_index pairs.now k) (λ k. slice_index (slice_index_or below.now.answers k []) place) }
 {
     let mut sum = 0;
@@ -48,7 +51,7 @@ fn refine(below: &Lists, pairs: &[u32; 10], input: usize, place: usize) -> u32
 
 fn refined_list<R: RowKind>(table: &Table<R>, below: &Lists, input: usize) -> [u32; 64]
     requires { below.now.inputs ≡ table.now.inputs }
-    ensures { (p : ℕ) → slice_index result p ≡ (if ltb input table.now.inputs && nat_lt p below.now.places then refined_sum table.now.inputs input (paired R.RowKind.weight table.now.inputs table.now.rows.now input) (λ k. slice_index (slice_index_or below.now.answers k []) p) else 0) }
+    ensures { (p : ℕ) → slice_index result p ≡ (if nat_lt input table.now.inputs && nat_lt p below.now.places then refined_sum table.now.inputs input (paired R.RowKind.weight table.now.inputs table.now.rows.now input) (λ k. slice_index (slice_index_or below.now.answers k []) p) else 0) }
 {
     let mut list = [0; 64];
     if input >= table.inputs {

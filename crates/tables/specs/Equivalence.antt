@@ -1,11 +1,11 @@
 -- Permutation equivalence as it is published, over Boolean vectors and with sameness in the place of equal values:
 -- f = g∘π, where (g∘π)(x_0, .., x_{n-1}) = g(x_π(0), .., x_π(n-1)).
-use Rattle.std.specs.Prelude.{◌≡◌, ℕ, ◌*◌, ◌^◌, Bool, true, cond, List, slice_index_or}
+use Rattle.std.specs.Prelude.{◌≡◌, ℕ, ◌*◌, ◌^◌, Bool, true, if◌then◌else◌, List, slice_index_or}
 use Rattle.tables.specs.Sums.{sum_to}
 
 -- the row of a truth table that a vector names
 abbrev pub named : ℕ → (ℕ → Bool) → ℕ
-named n x = sum_to n (λ i. cond (x i) 1 0 * 2 ^ i)
+named n x = sum_to n (λ i. (if x i then 1 else 0) * 2 ^ i)
 
 -- f(x), for the function f whose truth table these rows are
 abbrev pub value : {R : Type 0} → ℕ → List R → (ℕ → Bool) → R → R

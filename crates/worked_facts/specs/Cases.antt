@@ -1,5 +1,5 @@
 -- Worked examples, as rows of one table, and what a row says in terms of the definitions that the contracts use.
-use Rattle.std.specs.Prelude.{◌≡◌, ℕ, ◌≤◌, Bool, true, cond, ◌⊎◌, ◌↔◌, List, [], ◌∷◌, map, codes, ◌==◌}
+use Rattle.std.specs.Prelude.{◌≡◌, ℕ, ◌≤◌, Bool, true, if◌then◌else◌, ◌⊎◌, ◌↔◌, List, [], ◌∷◌, map, codes, ◌==◌}
 use Prim.Native.String.{String}
 use Rattle.rows.specs.declared.on_off.OnOff.{OnOff}
 use Rattle.rows.specs.declared.on_off.OnOff.TheVariants.{Off, On}
@@ -56,7 +56,7 @@ Holds (spreading by n card part k) = spread (map (told by n card) (range_with_le
 
 -- on/off rows as a text of 0 and 1, row 0 first
 abbrev pub rows : String → List OnOff
-rows text = map (λ c. cond (c == 49) On Off) (codes text)
+rows text = map (λ c. if c == 49 then On else Off) (codes text)
 
 abbrev pub cases : List Case
 cases =

@@ -4,12 +4,12 @@ use Rattle.inventory.proofs.row_store.stored.Goals as goal
 
 pub slice_bounds-result-end : goal.slice_bounds-result-end
 slice_bounds-result-end g c =
-    let small = rows_fit c.args.inputs c.requires.1.1 in
-    omega (arith, shift_rows c.args.inputs c.requires.1.1, c.requires.0, c.requires.1.0)
+    let small = rows_fit c.args.inputs c.requires.inputs_few in
+    omega (arith, shift_rows c.args.inputs c.requires.inputs_few, c.requires.slot_few, c.requires.stretch_in)
 
 pub returns : goal.returns
 returns g c =
     let start = c.args.slot * 1024 in
     let size : start + 1 * 2 ^ c.args.inputs % 18446744073709551616 - start ≡ 2 ^ c.args.inputs =
-    omega (arith, shift_rows c.args.inputs c.requires.1.1) in
+    omega (arith, shift_rows c.args.inputs c.requires.inputs_few) in
     ap (λ n. take n (drop start c.args.memory.now)) size

@@ -23,19 +23,14 @@ settle-requires g c =
     let two = pow_two begun.len in
     let lc : length card.rows.now ≡ 2 ^ begun.inputs = card_whole same card part strikes begun c.args.carried.now c.requires.begun in
     let lp : length part.rows.now ≡ 2 ^ begun.inputs = part_whole same card part strikes begun c.args.carried.now c.requires.begun in
-    let half : 2 ^ c.len-input.result ≡ 2 ^ begun.len = ap (λ k. 2 ^ k) el in (
-      omega (arith, el),
-      (
-        omega (arith, low, few),
-        (
-          omega (arith, half, two, up, lc),
-          (
-            omega (arith, lp, top),
-            λ r lr. in_part same card part strikes begun c.args.carried.now c.requires.begun c.args.pin longer grown r (omega (arith, lr, half)),
-          ),
-        ),
-      ),
-    )
+    let half : 2 ^ c.len-input.result ≡ 2 ^ begun.len = ap (λ k. 2 ^ k) el in
+    record {
+      input_few = omega (arith, el);
+      pin_few = omega (arith, low, few);
+      both_halves = omega (arith, half, two, up, lc);
+      part_small = omega (arith, lp, top);
+      targets = λ r lr. in_part same card part strikes begun c.args.carried.now c.requires.begun c.args.pin longer grown r (omega (arith, lr, half));
+    }
 
 pub returns-then-not-settle : goal.returns-then-not-settle
 returns-then-not-settle g c =

@@ -9,10 +9,10 @@ pub overflow_add-sum-then-k-input : goal.overflow_add-sum-then-k-input
 overflow_add-sum-then-k-input c =
     let k = c.loop-k.k in
     let few : c.args.below.now.inputs ≤ 10 = c.args.below.now.few in
-    let s = product_small (get_or c.args.pairs.now k 0) (get_or (get_or c.args.below.now.answers k []) c.args.place 0) (c.requires.1.1 k c.loop-k-test.true c.if-k-input.true) in
+    let s = product_small (get_or c.args.pairs.now k 0) (get_or (get_or c.args.below.now.answers k []) c.args.place 0) (c.requires.light k c.loop-k-test.true c.if-k-input.true) in
     ⊎_elim
     (λ l. omega (arith, s, c.loop-k.invariant.2 l, c.loop-k-test.true))
-    (λ ge. omega (arith, s, c.loop-k.invariant.1, c.if-k-input.true, c.requires.0))
+    (λ ge. omega (arith, s, c.loop-k.invariant.1, c.if-k-input.true, c.requires.input_in))
     (cases_lt c.args.input k)
 
 pub loop-k-preserved : goal.loop-k-preserved
@@ -24,7 +24,7 @@ loop-k-preserved c =
     elim c.if-k-input.branch [
       | then-k-input way ↦
           let here : cond (eqb k c.args.input) 0 (pair * (1 + answer % 4096)) ≡ pair * (1 + answer % 4096) = ap (λ b. cond b 0 (pair * (1 + answer % 4096))) (ne_eqb k c.args.input way.if-k-input.true) in
-          let s = product_small pair answer (c.requires.1.1 k c.loop-k-test.true way.if-k-input.true) in (
+          let s = product_small pair answer (c.requires.light k c.loop-k-test.true way.if-k-input.true) in (
             omega (arith, way.sum-is, c.loop-k.invariant.0, more, here),
             omega (arith, way.sum-is, c.loop-k.invariant.1, s),
             λ l. let before : c.args.input < k = omega (arith, way.if-k-input.true) in omega (arith, way.sum-is, s, c.loop-k.invariant.2 before),

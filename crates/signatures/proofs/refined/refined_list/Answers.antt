@@ -17,16 +17,15 @@ loop-place-init g c = (refl, (λ p l. absurd (omega arith)), λ p le. zeros 64 p
 pub refine-requires : goal.refine-requires
 refine-requires g c =
     let table = c.args.table.now in
-    let short : c.args.below.now.places ≤ 64 = c.args.below.now.short in (
-      omega (arith, c.if-input-table.false, c.requires),
-      (
-        omega (arith, c.loop-place-test.true, short),
-        λ k lk ne.
-            let ln : k < table.inputs = omega (arith, lk, c.requires) in
-            let small = paired_small g.R.RowKind.weight g.met.R.RowKind.light table.inputs table.rows.now c.args.input k table.few c.if-input-table.false ln ne in
-            omega (arith, small, c.pair_weights-pairs.ensures k ln),
-      ),
-    )
+    let short : c.args.below.now.places ≤ 64 = c.args.below.now.short in
+    record {
+      input_in = omega (arith, c.if-input-table.false, c.requires);
+      place_in = omega (arith, c.loop-place-test.true, short);
+      light = λ k lk ne.
+          let ln : k < table.inputs = omega (arith, lk, c.requires) in
+          let small = paired_small g.R.RowKind.weight g.met.R.RowKind.light table.inputs table.rows.now c.args.input k table.few c.if-input-table.false ln ne in
+          omega (arith, small, c.pair_weights-pairs.ensures k ln);
+    }
 
 pub loop-place-preserved : goal.loop-place-preserved
 loop-place-preserved g c =

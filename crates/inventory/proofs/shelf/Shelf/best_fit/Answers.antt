@@ -16,7 +16,11 @@ room shelf k size x label lt e whole = let used = in_use shelf k label (sym (slo
 
 pub stored-requires : goal.stored-requires
 stored-requires g c =
-    (c.loop-k-test.true, (room c.args.self.now c.loop-k.k (length c.args.memory.now) c.slot-item.result c.in-Some.label c.loop-k-test.true c.in-Some.ensures.0 c.requires, c.in-Some.label.few))
+    record {
+      slot_few = c.loop-k-test.true;
+      stretch_in = room c.args.self.now c.loop-k.k (length c.args.memory.now) c.slot-item.result c.in-Some.label c.loop-k-test.true c.in-Some.ensures.0 c.requires;
+      inputs_few = c.in-Some.label.few;
+    }
 
 pub invariant_of-part : goal.invariant_of-part
 invariant_of-part g c =

@@ -12,7 +12,7 @@ store-requires g c =
     let slot = c.in_ok-slot.ensures.1.0 in
     let many = c.in_ok-check_memory.ensures.1 in
     let few = c.args.self.now.few in
-    (omega arith, (omega arith, omega arith))
+    record { slot_few = omega arith; stretch_in = omega arith; rows_fit = omega arith }
 
 pub invariant_of-self-2 : goal.invariant_of-self-2
 invariant_of-self-2 g c =
