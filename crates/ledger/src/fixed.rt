@@ -1,3 +1,4 @@
+ghost use Rattle.std.specs.Prelude.{◌≡◌};
 ghost use Rattle.ledger.specs.Fixed.{StandOnce, OneAnswer, OneTranscript, TenExactly};
 ghost use Rattle.ledger.specs.Law.{list_by};
 
@@ -10,6 +11,7 @@ pub fn law_fixes_answers<R: RowKind, P: Signature<R>>() -> u8
     ensures once { StandOnce R.RowKind.same (list_by P.Signature.count P.Signature.value) }
     ensures answer { OneAnswer R.RowKind.same (list_by P.Signature.count P.Signature.value) }
     ensures transcript { OneTranscript R.RowKind.same (list_by P.Signature.count P.Signature.value) }
+    ensures zero { result ≡ 0 }
     ensures ten { TenExactly R.RowKind.same (list_by P.Signature.count P.Signature.value) }
 {
     0

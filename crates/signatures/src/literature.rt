@@ -1,3 +1,4 @@
+ghost use Rattle.std.specs.Prelude.{◌≡◌};
 ghost use Rattle.signatures.specs.Literature.{CofactorCounts, BreakupCounts, BreakupSums};
 
 use rows::RowKind;
@@ -8,6 +9,7 @@ pub fn literature_stands<R: RowKind>() -> u8
     ensures cofactor { CofactorCounts }
     ensures breakup { BreakupCounts }
     ensures sums { BreakupSums R.RowKind.weight }
+    ensures zero { result ≡ 0 }
 {
     0
 }

@@ -1,3 +1,4 @@
+use Rattle.std.proofs.Common.{refl}
 use Rattle.ledger.proofs.One.{stand_once, one_answer, one_transcript, ten_exactly}
 use Rattle.ledger.specs.Law.{list_by}
 use Rattle.ledger.proofs.fixed.law_fixes_answers.Goals as goal
@@ -10,5 +11,6 @@ returns g c =
       once = stand_once same list;
       answer = one_answer same list;
       transcript = one_transcript same list;
+      zero = refl;
       ten = ten_exactly same list;
     }
