@@ -74,7 +74,9 @@ pub struct Model {
 
 impl Model {
     // Each row is drawn by itself, so that most inputs have lists of their own.
-    pub fn plain(random: &mut Random) -> Model {
+    pub fn plain(random: &mut Random) -> Model
+        ensures { result.turns ≡ 1 }
+    {
         let mut card = [OnOff::Off; 1024];
         for r in 0..1024 {
             card[r] = random.row();
@@ -83,7 +85,9 @@ impl Model {
     }
 
     // A row is drawn with all its turns, so that all inputs have one list and the search is left to the rows.
-    pub fn ring(random: &mut Random) -> Model {
+    pub fn ring(random: &mut Random) -> Model
+        ensures { result.turns ≡ 10 }
+    {
         let mut card = [OnOff::Off; 1024];
         for r in 0..1024 {
             let row = random.row();

@@ -1,4 +1,5 @@
 ghost use Rattle.std.specs.Prelude.{◌≡◌, ◌<◌, IfOk};
+ghost use Rattle.bench_fit.specs.Draws.{next, drawn, drawn_row};
 
 use refusals::Refusal;
 use rows::OnOff;
@@ -11,13 +12,18 @@ pub struct Random(pub u32);
 impl Random {
     pub fn below(&mut self, end: usize) -> usize
         requires { 0 < end }
-        ensures { result < end }
+        ensures low { result < end }
+        ensures value { result ≡ drawn self.old.0 end }
+        ensures state { self.new.0 ≡ next self.old.0 }
     {
         self.0 = self.0.wrapping_mul(1664525).wrapping_add(1013904223);
         (self.0 >> 16) as usize % end
     }
 
-    pub fn row(&mut self) -> OnOff {
+    pub fn row(&mut self) -> OnOff
+        ensures value { result ≡ drawn_row self.old.0 }
+        ensures state { self.new.0 ≡ next self.old.0 }
+    {
         if self.below(2) == 0 {
             OnOff::Off
         } else {
