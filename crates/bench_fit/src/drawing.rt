@@ -1,4 +1,4 @@
-ghost use Rattle.std.specs.Prelude.{◌≡◌, ◌<◌, IfSome};
+ghost use Rattle.std.specs.Prelude.{◌≡◌, ◌<◌, IfSome, IsPermutation};
 
 use crate::random::Random;
 use refusals::Refusal;
@@ -28,7 +28,9 @@ fn carried(rows: &Rows, wiring: &Wiring) -> Rows
 }
 
 // Another table of the same weight.
-fn shuffled(random: &mut Random, rows: &Rows) -> Rows {
+fn shuffled(random: &mut Random, rows: &Rows) -> Rows
+    ensures { IsPermutation rows.now result }
+{
     let mut other = *rows;
     for r in 0..1024 {
         other.swap(r, random.below(1024));
@@ -53,6 +55,7 @@ fn unlike(rows: &Rows, row: usize) -> Option<usize>
 fn exchanged(rows: &Rows, a: usize, b: usize, turns: usize) -> Rows
     requires a_in { a < 1024 }
     requires b_in { b < 1024 }
+    ensures { IsPermutation rows.now result }
 {
     let mut other = *rows;
     let mut a = a;
@@ -102,7 +105,9 @@ impl Model {
 
     // The card with two rows of unequal value exchanged, as many inputs on in one as in the other. It weighs the same,
     // and where all turns are exchanged with them, the lists are the same too.
-    pub fn near_miss(&self, random: &mut Random) -> Rows {
+    pub fn near_miss(&self, random: &mut Random) -> Rows
+        ensures { IsPermutation self.now.card result }
+    {
         for row in random.below(512)..1024 {
             if let Some(other) = unlike(&self.card, row) {
                 return exchanged(&self.card, row, other, self.turns);
