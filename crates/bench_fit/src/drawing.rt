@@ -1,4 +1,7 @@
 ghost use Rattle.std.specs.Prelude.{◌≡◌, ◌<◌, IfSome, IsPermutation};
+ghost use Rattle.rows.specs.Kinds.{on_off_same};
+ghost use Rattle.tables.specs.Wirings.{pin};
+ghost use Rattle.tables.specs.Agreement.{Agree};
 
 use crate::random::Random;
 use refusals::Refusal;
@@ -19,6 +22,7 @@ fn turned(row: usize) -> usize
 // The table that a wiring carries each row of a table to: they agree under it.
 fn carried(rows: &Rows, wiring: &Wiring) -> Rows
     requires { wiring.now.inputs ≡ 10 }
+    ensures { Agree on_off_same 10 (pin wiring.now.pins) rows.now result }
 {
     let mut part = *rows;
     for (r, row) in rows.iter().enumerate() {
