@@ -1,7 +1,8 @@
-ghost use Rattle.std.specs.Prelude.{◌≡◌, ◌<◌, IfSome, IsPermutation};
+ghost use Rattle.std.specs.Prelude.{◌≡◌, ◌<◌, IfSome, IsOkAnd, IsPermutation};
 ghost use Rattle.rows.specs.Kinds.{on_off_same};
 ghost use Rattle.tables.specs.Wirings.{pin};
 ghost use Rattle.tables.specs.Agreement.{Agree};
+ghost use Rattle.bench_fit.specs.Parts.{IsPart};
 
 use crate::random::Random;
 use refusals::Refusal;
@@ -122,7 +123,9 @@ impl Model {
 
     // A part that weighs what the card weighs. In the last quarter of the numbers it agrees with the card, before that
     // it is a near miss or has little to do with it.
-    pub fn part(&self, random: &mut Random, number: u32, parts: u32) -> Result<Rows, Refusal> {
+    pub fn part(&self, random: &mut Random, number: u32, parts: u32) -> Result<Rows, Refusal>
+        ensures { IsOkAnd result (IsPart self.now.card number parts) }
+    {
         if number > parts / 4 * 3 {
             return Ok(carried(&self.card, &random.wiring()?));
         }

@@ -1,4 +1,4 @@
-ghost use Rattle.std.specs.Prelude.{◌≡◌, ◌<◌, IfOk};
+ghost use Rattle.std.specs.Prelude.{◌≡◌, ◌<◌, IsOkAnd};
 ghost use Rattle.bench_fit.specs.Draws.{next, drawn, drawn_row};
 
 use refusals::Refusal;
@@ -33,7 +33,7 @@ impl Random {
 
     // A wiring for ten inputs.
     pub fn wiring(&mut self) -> Result<Wiring, Refusal>
-        ensures { IfOk result (λ wiring. wiring.inputs ≡ 10) }
+        ensures { IsOkAnd result (λ wiring. wiring.inputs ≡ 10) }
     {
         let mut pins = [0, 1, 2, 3, 4, 5, 6, 7, 8, 9];
         for i in 0..10 {
