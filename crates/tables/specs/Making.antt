@@ -4,11 +4,16 @@ use Rattle.refusals.specs.Numbers.{number}
 use Rattle.refusals.specs.declared.refusal.Refusal.{Refusal}
 use Rattle.tables.specs.Wirings.{pin, Wires, Alike}
 use Rattle.tables.specs.declared.partial_wiring.PartialWiring.{PartialWiring}
+use Rattle.tables.specs.declared.table.Table.{Table}
 use Rattle.tables.specs.declared.wiring.Wiring.{Wiring}
 
 -- a table of n inputs and so many rows: more than ten inputs is refused with 3, then rows that are not 2^n with 4
 abbrev pub table_due : ℕ → ℕ → Due
 table_due n rows = first (nat_lt 10 n) 3 (first (not (rows == 2 ^ n)) 4 none)
+
+-- the table of n inputs with these rows
+abbrev pub IsTable : {R : Type 0} → ℕ → List R → Table R → Type 0
+IsTable n rows table = (table.inputs ≡ n) × (table.rows.now ≡ rows)
 
 -- a wiring of more than ten inputs is refused with 3
 abbrev pub wiring_due : ℕ → Due
