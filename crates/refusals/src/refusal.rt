@@ -8,36 +8,24 @@ use std::fmt;
 // Why a call was refused. Each case has a fixed number, by which every layer and every answer text knows it.
 #[derive(Clone, Copy, PartialEq, Eq, Debug)]
 pub enum Refusal {
-    NotAPartNumber,
-    TooManyInputs,
-    WrongRowCount,
-    DriveOutOfRange,
-    WrongShelfSize,
-    NumberStands,
-    ShelfFull,
-    NumberDoesNotStand,
-    NoPartAgrees,
-    MemoryTooShort,
-    NotAWiring,
+    NotAPartNumber = 2,
+    TooManyInputs = 3,
+    WrongRowCount = 4,
+    DriveOutOfRange = 5,
+    WrongShelfSize = 6,
+    NumberStands = 7,
+    ShelfFull = 8,
+    NumberDoesNotStand = 9,
+    NoPartAgrees = 10,
+    MemoryTooShort = 13,
+    NotAWiring = 14,
 }
 
 impl Refusal {
     pub fn number(self) -> u8
         ensures { result ≡ number self }
     {
-        match self {
-            Refusal::NotAPartNumber => 2,
-            Refusal::TooManyInputs => 3,
-            Refusal::WrongRowCount => 4,
-            Refusal::DriveOutOfRange => 5,
-            Refusal::WrongShelfSize => 6,
-            Refusal::NumberStands => 7,
-            Refusal::ShelfFull => 8,
-            Refusal::NumberDoesNotStand => 9,
-            Refusal::NoPartAgrees => 10,
-            Refusal::MemoryTooShort => 13,
-            Refusal::NotAWiring => 14,
-        }
+        self as u8
     }
 
     // What it says to a person.

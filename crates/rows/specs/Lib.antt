@@ -1,2 +1,3 @@
+pub mod Laws
 pub mod Kinds
 pub mod Drives

@@ -12,15 +12,7 @@ impl RowKind for Indistinct {
 
     ghost weight = { λ _. 0 };
 
-    ghost reflexive = { Prim.search rules };
-
-    ghost symmetric = { Prim.search rules };
-
-    ghost transitive = { Prim.search rules };
-
-    ghost alike = { Prim.search rules };
-
-    ghost light = { Prim.search rules };
+    ghost laws = { Prim.search rules };
 
     fn is_same(&self, _other: &Indistinct) -> bool {
         true

@@ -15,28 +15,13 @@ impl RowKind for OnOff {
 
     ghost weight = { on_off_weight };
 
-    ghost reflexive = { Prim.search rules };
-
-    ghost symmetric = { Prim.search rules };
-
-    ghost transitive = { Prim.search rules };
-
-    ghost alike = { Prim.search rules };
-
-    ghost light = { Prim.search rules };
+    ghost laws = { Prim.search rules };
 
     fn is_same(&self, other: &OnOff) -> bool {
-        match (*self, *other) {
-            (OnOff::Off, OnOff::Off) => true,
-            (OnOff::On, OnOff::On) => true,
-            _ => false,
-        }
+        self == other
     }
 
     fn weight(&self) -> u8 {
-        match *self {
-            OnOff::Off => 0,
-            OnOff::On => 1,
-        }
+        *self as u8
     }
 }

@@ -5,8 +5,8 @@ pub mod Reindex
 pub mod Carries
 pub mod Published
 pub mod Growing
-pub mod Weights
 pub mod Reading
 pub mod Shifts
 pub mod Alikes
-pub mod AlikePins
+pub mod Pins
+pub mod Dictionary

@@ -12,7 +12,7 @@ pub fn total_weight<R: RowKind>(table: &Table<R>) -> u32
     ensures { result ≡ weighed R.RowKind.weight table.now.rows.now (2 ^ table.now.inputs) }
 {
     let mut sum = 0;
-    for (r, row) in table.rows.iter().enumerate() {
+    for row in table.rows {
         sum += row.weight() as u32;
     }
     sum

@@ -9,22 +9,12 @@ impl RowKind for Drive {
 
     ghost weight = { drive_weight };
 
-    ghost reflexive = { Prim.search rules };
-
-    ghost symmetric = { Prim.search rules };
-
-    ghost transitive = { Prim.search rules };
-
-    ghost alike = { Prim.search rules };
-
-    ghost light = { Prim.search rules };
+    ghost laws = { Prim.search rules };
 
     fn is_same(&self, other: &Drive) -> bool {
         match (self.direction, other.direction) {
             (Direction::Rest, Direction::Rest) => true,
-            (Direction::Left, Direction::Left) => self.hold == other.hold,
-            (Direction::Right, Direction::Right) => self.hold == other.hold,
-            _ => false,
+            (here, there) => here == there && self.hold == other.hold,
         }
     }
 

@@ -11,9 +11,9 @@ impl Wiring {
         ensures carried { Carried self.now.inputs (pin self.now.pins) row result }
     {
         let mut carried = 0;
-        for i in 0..self.inputs {
+        for (i, pin) in self.pins().iter().enumerate() {
             if (row >> i) % 2 == 1 {
-                carried += 1usize << self.pins[i];
+                carried += 1usize << *pin;
             }
         }
         carried

@@ -17,15 +17,7 @@ impl PartialEq for Wiring {
         ensures value { result ≡ ⟦<Wiring as PartialEq>⟧.eq self.now other.now }
         ensures decided { Decides result ((self.now.inputs ≡ other.now.inputs) × Alike self.now.inputs (pin self.now.pins) (pin other.now.pins)) }
     {
-        if self.inputs != other.inputs {
-            return false;
-        }
-        for i in 0..self.inputs {
-            if self.pins[i] != other.pins[i] {
-                return false;
-            }
-        }
-        true
+        self.pins() == other.pins()
     }
 }
 

@@ -10,8 +10,8 @@ impl Wiring {
         ensures back { Inverse self.now.inputs (pin self.now.pins) (pin result.pins) }
     {
         let mut pins = [0; 10];
-        for i in 0..self.inputs {
-            pins[self.pins[i] as usize] = i as u8;
+        for (i, pin) in self.pins().iter().enumerate() {
+            pins[*pin as usize] = i as u8;
         }
         Wiring {
             inputs: self.inputs,

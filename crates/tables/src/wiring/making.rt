@@ -11,14 +11,8 @@ impl Wiring {
     {
         let mut partial = PartialWiring::empty(inputs)?;
         for pin in pins {
-            match partial.with(*pin) {
-                Some(longer) => partial = longer,
-                None => return Err(Refusal::NotAWiring),
-            }
+            partial = partial.with(*pin).ok_or(Refusal::NotAWiring)?;
         }
-        match partial.finish() {
-            Some(wiring) => Ok(wiring),
-            None => Err(Refusal::NotAWiring),
-        }
+        partial.finish().ok_or(Refusal::NotAWiring)
     }
 }

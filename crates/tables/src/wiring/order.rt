@@ -8,14 +8,6 @@ impl Wiring {
     pub fn comes_before(&self, other: &Wiring) -> bool
         ensures { Decides result ((self.now.inputs ≡ other.now.inputs) × Before self.now.inputs (pin self.now.pins) (pin other.now.pins)) }
     {
-        if self.inputs != other.inputs {
-            return false;
-        }
-        for i in 0..self.inputs {
-            if self.pins[i] != other.pins[i] {
-                return self.pins[i] < other.pins[i];
-            }
-        }
-        false
+        self.inputs == other.inputs && self.pins() < other.pins()
     }
 }

@@ -36,7 +36,7 @@ returns-then-total_weight g c =
     refuse g.R.RowKind.same x card.rows.now part.rows.now (λ a.
     c.if-total_weight.true
     (c.total_weight.ensures ∙ ap (λ k. weighed weight card.rows.now k) (sym card.whole ∙ a.card_rows)
-    ∙ total_there g.R.RowKind.same weight g.met.R.RowKind.alike x.inputs card.rows.now part.rows.now (pin x.pins) a
+    ∙ total_there g.R.RowKind.same weight g.met.R.RowKind.laws.alike x.inputs card.rows.now part.rows.now (pin x.pins) a
     ∙ ap (λ k. weighed weight part.rows.now k) (sym a.part_rows ∙ part.whole) ∙ sym c.total_weight-2.ensures))
 
 pub returns-then-not-is_same : goal.returns-then-not-is_same

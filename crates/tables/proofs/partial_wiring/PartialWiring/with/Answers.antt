@@ -3,15 +3,6 @@ use Rattle.std.proofs.lemmas.Bool.{both_ways}
 use Rattle.tables.specs.Wirings.{pin}
 use Rattle.tables.proofs.Growing.{pins_kept, pins_new, placed_more, marked_more, unmarked_more, rest_more}
 use Rattle.tables.proofs.partial_wiring.PartialWiring.with.Goals as goal
-use Rattle.tables.proofs.partial_wiring.PartialWiring.with.Goals.{then-self-via-then-self, then-self-via-else-self+then-at-self, then-self-via-else-self+else-at-self+then-self-at}
-
-pub returns-then-self : goal.returns-then-self
-returns-then-self c = λ h.
-    elim c.then-self.branch [
-      | then-self-via-then-self way ↦ omega (arith, h.0, way.if-self.true)
-      | then-self-via-else-self+then-at-self way ↦ omega (arith, h.1, way.if-at-self.true)
-      | then-self-via-else-self+else-at-self+then-self-at way ↦ both_ways _ (c.args.self.now.unmarked c.args.pin h.2) way.if-self-at.true
-    ]
 
 pub invariant_of-longer : goal.invariant_of-longer
 invariant_of-longer c =
