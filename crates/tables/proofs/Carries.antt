@@ -91,12 +91,6 @@ module _ (n k : ℕ) (w : ℕ → ℕ) (r : ℕ) where
   pub carry_more : bit k r ≡ 1 → carry (k + 1) w r ≡ carry k w r + 2 ^ w k
   carry_more on = rw add-one (let z : bit k r * 2 ^ w k ≡ 1 * 2 ^ w k = ap (λ y. y * 2 ^ w k) on in omega arith)
 
-  pub carry_skip : (bit k r ≡ 1 → ⊥) → carry (k + 1) w r ≡ carry k w r
-  carry_skip off =
-      rw add-one
-      (let b = bit_lt k r in let z : bit k r ≡ 0 = ⊎_elim (λ e. absurd (off e)) (λ ne. omega arith) (cases_eq (bit k r) 1) in
-      let y : bit k r * 2 ^ w k ≡ 0 * 2 ^ w k = ap (λ x. x * 2 ^ w k) z in omega arith)
-
   -- what is carried so far lies in the table
   pub carry_small : Wires n w → k ≤ n → n ≤ 10 → carry k w r < 1024
   carry_small h le few =

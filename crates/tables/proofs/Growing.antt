@@ -32,9 +32,6 @@ module _ (n k p : ℕ) (w u : ℕ → ℕ) (kept : Alike k u w) (new : u k ≡ p
   )
 
   -- a pin that the first k inputs leave free is one that the next may have
-  pub free_pin : Placed n (k + 1) u → (i : ℕ) → i < k → w i ≡ p → ⊥
-  free_pin h i li e = let x : i ≡ k = h.1 i k (omega arith, omega arith, kept i li ∙ e ∙ sym new) in omega arith
-
   module _ (used : List Bool) (wide : p < length used) where
     pub marked_more : ((i : ℕ) → i < k → get_or used (w i) false ≡ true) → (i : ℕ) → i < k + 1 → get_or (set used p true) (u i) false ≡ true
     marked_more marked i li = ⊎_elim

@@ -90,9 +90,6 @@ module _ (n : ℕ) (w : ℕ → ℕ) (h : Wires n w) where
   pub back_there : (i : ℕ) → i < n → back (w i) ≡ i
   back_there i lt = let l = h.0 i lt in apart n w h (back (w i)) i (back_into (w i) l) lt (there_back (w i) l)
 
-  pub back_wires : Wires n back
-  back_wires = (back_into, λ i j h3. sym (there_back i h3.0) ∙ ap w h3.2 ∙ there_back j h3.1)
-
 -- what takes each pin back to its input is a wiring too, and the inverse
 module _ (n : ℕ) (w v : ℕ → ℕ) (h : Wires n w) (turned : (i : ℕ) → i < n → v (w i) ≡ i) where
   pub turned_inverse : Inverse n w v
