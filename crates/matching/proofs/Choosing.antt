@@ -1,6 +1,8 @@
 -- The steps of the search: a pin more, a pin that no usable wiring goes on with, and the end.
-use Rattle.std.proofs.Common.{◌≡◌, ℕ, suc, ◌+◌, ◌-◌, ◌^◌, ◌<◌, ◌≤◌, Bool, true, false, List, [], ◌∷◌, length, get_or, Some, None, Option, sym, ap, ◌∙◌, subst, inl, inr, ⊎_elim, pow-suc, add-one, arith, pow_pos, pow_mono}
+use Rattle.std.proofs.Common.{◌≡◌, ℕ, suc, ◌+◌, ◌-◌, ◌^◌, ◌<◌, ◌≤◌, Bool, true, false, List, [], ◌∷◌, length, get_or, Some, None, Option, sym, ap, ◌∙◌, subst, inl, inr, refl, ⊎_elim, add-one, arith, pow_pos, pow_mono}
+use Rattle.std.specs.Bool.{then_some}
 use Rattle.std.proofs.lemmas.Bool.{cases_eq, cases_lt, both_ways}
+use Rattle.std.proofs.Math.Nat.{two-pow-succ}
 use Rattle.tables.specs.Wirings.{pin, Placed, Wires, Alike}
 use Rattle.tables.specs.Carry.{carry}
 use Rattle.tables.specs.Making.{Extended}
@@ -8,210 +10,238 @@ use Rattle.tables.specs.declared.partial_wiring.PartialWiring.{PartialWiring}
 use Rattle.tables.specs.declared.table.Table.{Table}
 use Rattle.tables.specs.declared.wiring.Wiring.{Wiring}
 use Rattle.tables.proofs.Carries.{carry_ext, carry_low, carry_high, carry_up, carry_lt, agree_row, rows_agree}
+use Rattle.matching.specs.declared.search.Search.{Search}
 use Rattle.matching.specs.Struck.{struck}
 use Rattle.matching.specs.Search.{Usable, Found}
-use Rattle.matching.specs.Begun.{Begun, Begins, Placing, Within, Settled, Differs, Kept}
+use Rattle.matching.specs.Begun.{Barred, Begins, Begun, Deciding, Differs, Placing, FirstFrom, SameSearch, Settled, Within}
 
 some : {R : Type 0} (xs : List R) → 0 < length xs → R
 some [] lt = absurd (omega arith)
 some (x ∷ xs) lt = x
 
-pub pow_two : (k : ℕ) → 2 ^ (k + 1) ≡ 2 ^ k + 2 ^ k
-pow_two k = rw add-one (let e = pow-suc 2 k in omega arith)
+a_row : {R : Type 0} → Table R → R
+a_row table = let pos = pow_pos table.inputs in some table.rows.now (omega (arith, table.whole))
 
--- what holds of the first k inputs and of the next
-alike_more : (k p : ℕ) (w u v : ℕ → ℕ) → Alike k u w → u k ≡ p → Alike k v w → v k ≡ p → Alike (k + 1) v u
-alike_more k p w u v kept new a e i li = ⊎_elim (λ l. a i l ∙ sym (kept i l)) (λ g. let x : i ≡ k = omega arith in ap v x ∙ e ∙ sym new ∙ ap u (sym x)) (cases_lt i k)
+-- the longer wiring gives the next input pin p
+pub record Grown (begun : PartialWiring) (p : ℕ) (longer : PartialWiring) : Type 0 where
+  pub inputs : longer.inputs ≡ begun.inputs
+  pub len : longer.len ≡ begun.len + 1
+  pub before : Alike begun.len (pin longer.pins) (pin begun.pins)
+  pub next : pin longer.pins begun.len ≡ p
 
-module _ {R : Type 0} (same : R → R → Bool) (card part : Table R) (strikes : List (List Bool)) where
-  -- a row of a card lies in the table, and so does the row that its bits below k give
-  row_of : (n : ℕ) → length card.rows.now ≡ 2 ^ n → R
-  row_of n whole = let pos = pow_pos n in some card.rows.now (omega arith)
+pub grown : (begun : PartialWiring) (p : ℕ) (longer : PartialWiring) → Extended begun p (Some longer) → Grown begun p longer
+grown begun p longer e = record { inputs = e.0; len = e.1; before = e.2; next = e.3 }
 
-  module _ (begun : PartialWiring) (carried : List ℕ) (h : Begun same card part strikes begun carried) where
-    abbrev k : ℕ
-    k = begun.len
+module _ {R : Type 0} (same : R → R → Bool) where
+  -- what is decided of a row that a wiring carries so decides of the wiring
+  pub differs_none : (card part : Table R) (strikes : List (List Bool)) (r q : ℕ) (v : ℕ → ℕ) → r < 2 ^ card.inputs → carry card.inputs v r ≡ q
+      → ((d : R) → same (get_or card.rows.now r d) (get_or part.rows.now q d) ≡ false) → Usable same card part strikes v → ⊥
+  differs_none card part strikes r q v lt e off usable =
+      let d = a_row card in
+      both_ways (same (get_or card.rows.now r d) (get_or part.rows.now q d)) (off d)
+      (ap (λ z. same (get_or card.rows.now r d) (get_or part.rows.now z d)) (sym e) ∙ agree_row same card.inputs card.rows.now part.rows.now v usable.agree r d lt)
 
-    abbrev w : ℕ → ℕ
-    w = pin begun.pins
+  -- row 0 is decided before any pin
+  pub differs_first : (card part : Table R) (strikes : List (List Bool)) → ((d : R) → same (get_or card.rows.now 0 d) (get_or part.rows.now 0 d) ≡ false) → Found same card part strikes None
+  differs_first card part strikes off v =
+      let pos = pow_pos card.inputs in
+      differs_none card part strikes 0 0 v pos (carry_up 0 card.inputs v 0 (omega arith) (omega arith)) off
 
-    pub card_whole : length card.rows.now ≡ 2 ^ begun.inputs
-    card_whole = card.whole ∙ ap (λ n. 2 ^ n) (sym h.card_inputs)
+module _ {R : Type 0} (same : R → R → Bool) (m : ℕ) (before after : Search R) (on : SameSearch m before after) where
+  usable_on : (v : ℕ → ℕ) → Usable same before.card.now before.part.now before.strikes.now.struck v → Usable same after.card.now after.part.now after.strikes.now.struck v
+  usable_on v usable = rw (on.card, on.part, on.strikes) usable
 
-    pub part_whole : length part.rows.now ≡ 2 ^ begun.inputs
-    part_whole = part.whole ∙ ap (λ n. 2 ^ n) (sym h.part_inputs)
+  usable_back : (v : ℕ → ℕ) → Usable same after.card.now after.part.now after.strikes.now.struck v → Usable same before.card.now before.part.now before.strikes.now.struck v
+  usable_back v usable = rw (← on.card, ← on.part, ← on.strikes) usable
 
-    pub begun_kept : (now : List ℕ) → Kept (2 ^ k) carried now → Begun same card part strikes begun now
-    begun_kept now kept = record {
-      card_inputs = h.card_inputs;
-      part_inputs = h.part_inputs;
-      spared = h.spared;
-      carries = λ r lt. kept r lt ∙ h.carries r lt;
-      alike = h.alike;
-    }
+  pub same_on : (k : ℕ) (last : Search R) → m ≤ k → SameSearch k after last → SameSearch m before last
+  same_on k last le more = record {
+    card = more.card ∙ on.card;
+    part = more.part ∙ on.part;
+    strikes = more.strikes ∙ on.strikes;
+    kept = λ r lt. more.kept r (omega arith) ∙ on.kept r lt;
+  }
+
+  pub begun_on : (begun : PartialWiring) → m ≡ 2 ^ begun.len → Begun same before begun → Begun same after begun
+  begun_on begun e h = record {
+    card_inputs = h.card_inputs ∙ ap (λ t. t.inputs) (sym on.card);
+    spared = rw on.strikes h.spared;
+    carries = λ r lt. on.kept r (omega arith) ∙ h.carries r lt;
+    alike = λ r d lt.
+        ap (λ t. same (get_or t.rows.now r d) (get_or after.part.now.rows.now (carry begun.len (pin begun.pins) r) d)) on.card
+        ∙ ap (λ t. same (get_or before.card.now.rows.now r d) (get_or t.rows.now (carry begun.len (pin begun.pins) r) d)) on.part ∙ h.alike r d lt;
+  }
+
+  pub barred_on : (begun : PartialWiring) (p : ℕ) → Barred same after begun p → Barred same before begun p
+  barred_on begun p barred v usable = barred v (usable_on v usable)
+
+  pub within_on : (begun : PartialWiring) (r : Option Wiring) → Within same after begun r → Within same before begun r
+  within_on begun (Some x) h = record {
+    inputs = rw (← on.card) h.inputs;
+    usable = usable_back (pin x.pins) h.usable;
+    begins = h.begins;
+    first = λ v usable a. rw (← on.card) (h.first v (usable_on v usable) a);
+  }
+  within_on begun None h = λ v usable. h v (usable_on v usable)
+
+module _ {R : Type 0} (same : R → R → Bool) (search : Search R) (begun : PartialWiring) where
+  abbrev card : Table R
+  card = search.card.now
+
+  abbrev part : Table R
+  part = search.part.now
+
+  abbrev carried : List ℕ
+  carried = search.carried
+
+  abbrev k : ℕ
+  k = begun.len
+
+  abbrev w : ℕ → ℕ
+  w = pin begun.pins
+
+  module _ (h : Begun same search begun) where
+    part_whole : length part.rows.now ≡ 2 ^ begun.inputs
+    part_whole = part.whole ∙ ap (λ n. 2 ^ n) (sym (h.card_inputs ∙ search.same_inputs))
 
     -- the rows that the next pin decides
-    module _ (p : ℕ) (longer : PartialWiring) (grown : Extended begun p (Some longer)) where
+    module _ (p : ℕ) (longer : PartialWiring) (g : Grown begun p longer) where
       abbrev u : ℕ → ℕ
       u = pin longer.pins
 
-      worth : 2 ^ u k ≡ 2 ^ p
-      worth = ap (λ z. 2 ^ z) grown.3
+      -- they are carried so much further than those without the bit
+      carry_next : (r : ℕ) → r < 2 ^ k → get_or carried r 0 + 2 ^ p ≡ carry (suc k) u (2 ^ k + r)
+      carry_next r lt = let a = carry_high k u r lt in let b = carry_ext k u w r g.before in let m = h.carries r lt in let y : 2 ^ u k ≡ 2 ^ p = ap (λ z. 2 ^ z) g.next in omega arith
 
       placed : Placed begun.inputs (suc k) u
-      placed =
-          let e : longer.len ≡ begun.len + 1 = grown.1 in
-          let n : longer.inputs ≡ begun.inputs = grown.0 in
-          ((λ i li. let l = longer.into i (omega arith) in omega arith), (λ i j t. let a = t.0 in let b = t.1 in longer.apart i j (omega arith, omega arith, t.2)))
+      placed = ((λ i li. let l = longer.into i (omega (arith, g.len)) in omega (arith, g.inputs)), (λ i j t. let a = t.0 in let b = t.1 in longer.apart i j (omega (arith, g.len), omega (arith, g.len), t.2)))
 
       -- they lie in the part
       pub in_part : (r : ℕ) → r < 2 ^ k → get_or carried r 0 + 2 ^ p < length part.rows.now
-      in_part r lt =
-          let c = carry_lt begun.inputs (suc k) u (2 ^ k + r) placed in
-          let e = carry_high k u r lt in
-          let x = carry_ext k u w r grown.2 in
-          let m = h.carries r lt in
-          let y = worth in
-          let l = part_whole in
-          omega arith
+      in_part r lt = let c = carry_lt begun.inputs (suc k) u (2 ^ k + r) placed in omega (arith, carry_next r lt, part_whole)
 
-      pub begun_more : struck strikes k p ≡ false → (now : List ℕ) → Kept (2 ^ k) carried now → Settled same card.rows.now part.rows.now (2 ^ k) (2 ^ k) (2 ^ p) carried now → Begun same card part strikes longer now
-      begun_more ok now kept s =
-          let ek : longer.len ≡ begun.len + 1 = grown.1 in
-          let up : (r : ℕ) → carry longer.len u r ≡ carry (suc k) u r = λ r. ap (λ m. carry m u r) (ek ∙ add-one k) in
-          let low : (r : ℕ) → r < 2 ^ k → carry k w r ≡ carry longer.len u r = λ r lt. sym (carry_ext k u w r grown.2) ∙ sym (carry_low k u r lt) ∙ sym (up r) in
-          let high : (r : ℕ) → r < 2 ^ k → get_or carried r 0 + 2 ^ p ≡ carry longer.len u (2 ^ k + r) = λ r lt.
-          (let a = carry_high k u r lt in let b = carry_ext k u w r grown.2 in let m = h.carries r lt in let y = worth in let z = up (2 ^ k + r) in omega arith) in
-          let two : 2 ^ longer.len ≡ 2 ^ k + 2 ^ k = ap (λ m. 2 ^ m) ek ∙ pow_two k in
-          record {
-            card_inputs = grown.0 ∙ h.card_inputs;
-            part_inputs = grown.0 ∙ h.part_inputs;
+      pub begun_more : (after : Search R) → SameSearch (2 ^ k) search after → struck search.strikes.now.struck k p ≡ false
+          → Settled same card.rows.now part.rows.now (2 ^ k) (2 ^ k) (2 ^ p) carried after.carried → Begun same after longer
+      begun_more after on free s =
+          let up : (r : ℕ) → carry longer.len u r ≡ carry (suc k) u r = λ r. ap (λ m. carry m u r) (g.len ∙ add-one k) in
+          let low : (r : ℕ) → r < 2 ^ k → carry k w r ≡ carry longer.len u r = λ r lt. sym (carry_ext k u w r g.before) ∙ sym (carry_low k u r lt) ∙ sym (up r) in
+          let high : (r : ℕ) → r < 2 ^ k → get_or carried r 0 + 2 ^ p ≡ carry longer.len u (2 ^ k + r) = λ r lt. carry_next r lt ∙ sym (up (2 ^ k + r)) in
+          let two : 2 ^ longer.len ≡ 2 ^ k + 2 ^ k = ap (λ m. 2 ^ m) (g.len ∙ add-one k) ∙ two-pow-succ k in
+          let moved : Search R = record { card = search.card; part = search.part; strikes = search.strikes; carried = after.carried; same_inputs = search.same_inputs } in
+          begun_on same (2 ^ longer.len) moved after record { card = on.card; part = on.part; strikes = on.strikes; kept = λ r lt. refl } longer refl record {
+            card_inputs = g.inputs ∙ h.card_inputs;
             spared = λ i li. ⊎_elim
-                (λ l. ap (λ y. struck strikes i y) (grown.2 i l) ∙ h.spared i l)
-                (λ g. let e : i ≡ k = omega arith in ap (λ y. struck strikes y (u y)) e ∙ ap (λ y. struck strikes k y) grown.3 ∙ ok)
+                (λ l. ap (λ y. struck search.strikes.now.struck i y) (g.before i l) ∙ h.spared i l)
+                (λ ge. let e : i ≡ k = omega (arith, g.len) in ap (λ y. struck search.strikes.now.struck y (u y)) e ∙ ap (λ y. struck search.strikes.now.struck k y) g.next ∙ free)
                 (cases_lt i k);
             carries = λ r lt. ⊎_elim
-                (λ l. kept r l ∙ h.carries r l ∙ low r l)
-                (λ g.
+                (λ l. on.kept r l ∙ h.carries r l ∙ low r l)
+                (λ ge.
                 let e : r ≡ 2 ^ k + (r - 2 ^ k) = omega arith in
                 let l : r - 2 ^ k < 2 ^ k = omega arith in
-                ap (λ y. get_or now y 0) e ∙ s.carries (r - 2 ^ k) l ∙ high (r - 2 ^ k) l ∙ ap (λ y. carry longer.len u y) (sym e))
+                ap (λ y. get_or after.carried y 0) e ∙ s.carries (r - 2 ^ k) l ∙ high (r - 2 ^ k) l ∙ ap (λ y. carry longer.len u y) (sym e))
                 (cases_lt r (2 ^ k));
             alike = λ r d lt. ⊎_elim
                 (λ l. ap (λ y. same (get_or card.rows.now r d) (get_or part.rows.now y d)) (sym (low r l)) ∙ h.alike r d l)
-                (λ g.
+                (λ ge.
                 let e : r ≡ 2 ^ k + (r - 2 ^ k) = omega arith in
                 let l : r - 2 ^ k < 2 ^ k = omega arith in
-                ap (λ y. same (get_or card.rows.now y d) (get_or part.rows.now (carry longer.len u y) d)) e ∙ ap (λ y. same (get_or card.rows.now (2 ^ k + (r - 2 ^ k)) d) (get_or part.rows.now y d)) (sym (high (r - 2 ^ k) l)) ∙ s.alike (r - 2 ^ k) d l)
+                subst (λ z. same (get_or card.rows.now z d) (get_or part.rows.now (carry longer.len u z) d) ≡ true) (sym e)
+                (ap (λ y. same (get_or card.rows.now (2 ^ k + (r - 2 ^ k)) d) (get_or part.rows.now y d)) (sym (high (r - 2 ^ k) l)) ∙ s.alike (r - 2 ^ k) d l))
                 (cases_lt r (2 ^ k));
           }
 
     -- a row that is not the same shuts out every usable wiring that goes on so
-    pub differs_none : (p : ℕ) → k < begun.inputs → Differs same card.rows.now part.rows.now (2 ^ k) (2 ^ p) carried → (v : ℕ → ℕ) → Usable same card part strikes v → Begins same card part strikes begun v → v k ≡ p → ⊥
-    differs_none p lk f v usable a new =
-        let n : ℕ = card.inputs in
-        let en : begun.inputs ≡ n = h.card_inputs in
+    pub differs_barred : (p : ℕ) → k < begun.inputs → Differs same card.rows.now part.rows.now (2 ^ k) (2 ^ p) carried → Barred same search begun p
+    differs_barred p lk f v usable a new =
+        let n = card.inputs in
         let r = f.0 in
-        let lr : r < 2 ^ k = f.1 in
-        let le : k + 1 ≤ n = omega arith in
-        let top : 2 ^ (k + 1) ≤ 2 ^ n = pow_mono le in
-        let two = pow_two k in
-        let d : R = row_of n card.whole in
-        let high : 2 ^ k + r < 2 ^ suc k = rw (← add-one k) (omega arith) in
-        let step : carry n v (2 ^ k + r) ≡ carry (suc k) v (2 ^ k + r) = carry_up (suc k) n v (2 ^ k + r) (omega arith) high in
-        let y : 2 ^ v k ≡ 2 ^ p = ap (λ z. 2 ^ z) new in
+        let le : suc k ≤ n = omega (arith, h.card_inputs) in
+        let top : 2 ^ suc k ≤ 2 ^ n = pow_mono le in
+        let two = two-pow-succ k in
+        let step = carry_up (suc k) n v (2 ^ k + r) le (omega (arith, f.1)) in
+        let b = carry_high k v r f.1 in
         let x = carry_ext k v w r a in
-        let b = carry_high k v r lr in
-        let m = h.carries r lr in
-        let e : carry n v (2 ^ k + r) ≡ get_or carried r 0 + 2 ^ p = omega (arith, step, y, x, b, m) in
-        both_ways (same (get_or card.rows.now (2 ^ k + r) d) (get_or part.rows.now (get_or carried r 0 + 2 ^ p) d)) (f.2 d)
-        (ap (λ z. same (get_or card.rows.now (2 ^ k + r) d) (get_or part.rows.now z d)) (sym e) ∙ agree_row same n card.rows.now part.rows.now v usable.agree (2 ^ k + r) d (omega arith))
+        let m = h.carries r f.1 in
+        let y : 2 ^ v k ≡ 2 ^ p = ap (λ z. 2 ^ z) new in
+        differs_none same card part search.strikes.now.struck (2 ^ k + r) (get_or carried r 0 + 2 ^ p) v (omega (arith, f.1)) (omega arith) f.2 usable
+
+    -- the rows of the next pin are decided
+    pub decided : (p : ℕ) (longer : PartialWiring) → Extended begun p (Some longer) → k < begun.inputs → struck search.strikes.now.struck k p ≡ false → (after : Search R) → SameSearch (2 ^ k) search after
+        → (alike : Bool) → Deciding same search (2 ^ k) (2 ^ p) alike after.carried → Placing same search begun p (then_some alike longer) after
+    decided p longer e lk free after on true s = (e, begun_more p longer (grown begun p longer e) after on free s)
+    decided p longer e lk free after on false f = differs_barred p lk f
 
     -- all inputs have their pins
-    pub whole : (x : Wiring) → k ≡ begun.inputs → x.inputs ≡ begun.inputs → x.pins ≡ begun.pins → Within same card part strikes begun (Some x)
+    pub whole : (x : Wiring) → k ≡ begun.inputs → x.inputs ≡ begun.inputs → x.pins ≡ begun.pins → FirstFrom same search begun x
     whole x e en ep =
         let n : ℕ = card.inputs in
-        let ec : begun.inputs ≡ n = h.card_inputs in
-        let ek : k ≡ n = e ∙ ec in
+        let ek : k ≡ n = e ∙ h.card_inputs in
         let v = pin x.pins in
         let ea : (i : ℕ) → v i ≡ w i = λ i. ap (λ l. pin l i) ep in
         let inside : (i : ℕ) → i < n → i < k = λ i li. omega arith in
-        let wires : Wires n v = ((λ i li. let l = x.into i (omega arith) in omega arith), (λ i j t. let a = t.0 in let b = t.1 in x.apart i j (omega arith, omega arith, t.2))) in (
-          en ∙ ec,
-          record {
-            agree = rows_agree same n card.rows.now part.rows.now v wires card.whole (part_whole ∙ ap (λ m. 2 ^ m) ec)
+        let wires : Wires n v = ((λ i li. let l = x.into i (omega (arith, h.card_inputs)) in omega (arith, h.card_inputs)), (λ i j t. let a = t.0 in let b = t.1 in x.apart i j (omega (arith, h.card_inputs), omega (arith, h.card_inputs), t.2))) in
+        record {
+          inputs = en ∙ h.card_inputs;
+          usable = record {
+            agree = rows_agree same n card.rows.now part.rows.now v wires card.whole (part_whole ∙ ap (λ m. 2 ^ m) h.card_inputs)
                 (λ r d lr. ap (λ y. same (get_or card.rows.now r d) (get_or part.rows.now y d)) (carry_ext n v w r (λ i _. ea i) ∙ ap (λ m. carry m w r) (sym ek)) ∙ h.alike r d (subst (λ m. r < 2 ^ m) (sym ek) lr));
-            spared = λ i li. ap (λ y. struck strikes i y) (ea i) ∙ h.spared i (inside i li);
-          },
-          (λ i li. ea i),
-          λ v' usable a. inl (λ i li. a i (inside i li) ∙ sym (ea i)),
-        )
+            spared = λ i li. ap (λ y. struck search.strikes.now.struck i y) (ea i) ∙ h.spared i (inside i li);
+          };
+          begins = λ i li. ea i;
+          first = λ v' usable a. inl (λ i li. a i (inside i li) ∙ sym (ea i));
+        }
 
-  module _ (begun : PartialWiring) where
-    -- no usable wiring that begins so gives the next input a pin below p
-    abbrev pub Past : ℕ → Type 0
-    Past p = (v : ℕ → ℕ) → Usable same card part strikes v → Begins same card part strikes begun v → v begun.len < p → ⊥
+  module _ (p : ℕ) (longer : PartialWiring) (g : Grown begun p longer) where
+    goes_on : (v : ℕ → ℕ) → Begins begun v → v k ≡ p → Begins longer v
+    goes_on v a e i li = ⊎_elim
+        (λ l. a i l ∙ sym (g.before i l))
+        (λ ge. let x : i ≡ k = omega (arith, g.len) in ap v x ∙ e ∙ sym g.next ∙ ap (pin longer.pins) (sym x))
+        (cases_lt i k)
 
-    pub past_more : (p : ℕ) → Past p → Placing same card part strikes begun p None [] → Past (p + 1)
-    past_more p below here v usable a lt = ⊎_elim (λ l. below v usable a l) (λ ge. here v usable a (omega arith)) (cases_lt (v begun.len) p)
+    pub none_on : Within same search longer None → Barred same search begun p
+    none_on none v usable a e = none v usable (goes_on v a e)
 
-    module _ (p : ℕ) (longer : PartialWiring) (grown : Extended begun p (Some longer)) where
-      goes_on : (v : ℕ → ℕ) → Begins same card part strikes begun v → v begun.len ≡ p → Begins same card part strikes longer v
-      goes_on v a e i li = let ek : longer.len ≡ begun.len + 1 = grown.1 in alike_more begun.len p (pin begun.pins) (pin longer.pins) v grown.2 grown.3 a e i (omega arith)
+    pub first_on : (x : Wiring) → k < card.inputs → ((q : ℕ) → q < p → Barred same search begun q) → FirstFrom same search longer x → FirstFrom same search begun x
+    first_on x lk past found =
+        let begins : Begins begun (pin x.pins) = λ i li. found.begins i (omega (arith, g.len)) ∙ g.before i li in
+        let at_k : pin x.pins k ≡ p = found.begins k (omega (arith, g.len)) ∙ g.next in
+        record {
+          inputs = found.inputs;
+          usable = found.usable;
+          begins = begins;
+          first = λ v usable a. ⊎_elim
+              (λ lt. absurd (past (v k) lt v usable a refl))
+              (λ ge. ⊎_elim
+              (λ e. found.first v usable (goes_on v a e))
+              (λ ne. inr (k, lk, (λ i li. begins i li ∙ sym (a i li)), omega arith))
+              (cases_eq (v k) p))
+              (cases_lt (v k) p);
+        }
 
-      pub none_on : Within same card part strikes longer None → Placing same card part strikes begun p None []
-      none_on none v usable a e = none v usable (goes_on v a e)
+  pub none_left : (p : ℕ) → k < card.inputs → card.inputs ≤ p → ((q : ℕ) → q < p → Barred same search begun q) → Within same search begun None
+  none_left p lk le past v usable a = past (v k) (let l = usable.agree.wires.0 k lk in omega arith) v usable a refl
 
-      pub first_on : (x : Wiring) → begun.len < card.inputs → Past p → Within same card part strikes longer (Some x) → Within same card part strikes begun (Some x)
-      first_on x lk past found =
-          let ek : longer.len ≡ begun.len + 1 = grown.1 in
-          let begins : Begins same card part strikes begun (pin x.pins) = λ i li. found.2 i (omega arith) ∙ grown.2 i li in
-          let at_k : pin x.pins begun.len ≡ p = found.2 begun.len (omega arith) ∙ grown.3 in (
-            found.0,
-            found.1,
-            begins,
-            λ v usable a.
-                ⊎_elim
-                (λ lt. absurd (past v usable a lt))
-                (λ ge. ⊎_elim
-                (λ e. found.3 v usable (goes_on v a e))
-                (λ ne. inr (begun.len, lk, (λ i li. begins i li ∙ sym (a i li)), omega arith))
-                (cases_eq (v begun.len) p))
-                (cases_lt (v begun.len) p),
-          )
+  module _ (none : k ≡ 0) where
+    pub begun_empty : begun.inputs ≡ card.inputs → get_or carried 0 0 ≡ 0 → ((d : R) → same (get_or card.rows.now 0 d) (get_or part.rows.now 0 d) ≡ true) → Begun same search begun
+    begun_empty en zero_at here =
+        let only : (r : ℕ) → r < 2 ^ k → r ≡ 0 = λ r lt. let e : 2 ^ k ≡ 2 ^ 0 = ap (λ m. 2 ^ m) none in omega arith in
+        let at_zero : carry k w 0 ≡ 0 = ap (λ m. carry m w 0) none in
+        record {
+          card_inputs = en;
+          spared = λ i li. absurd (omega arith);
+          carries = λ r lt. subst (λ y. get_or carried y 0 ≡ carry k w y) (sym (only r lt)) (zero_at ∙ sym at_zero);
+          alike = λ r d lt. subst (λ y. same (get_or card.rows.now y d) (get_or part.rows.now (carry k w y) d) ≡ true) (sym (only r lt))
+              (ap (λ y. same (get_or card.rows.now 0 d) (get_or part.rows.now y d)) at_zero ∙ here d);
+        }
 
-    pub none_left : (p : ℕ) → begun.len < card.inputs → card.inputs ≤ p → Past p → Within same card part strikes begun None
-    none_left p lk le past v usable a = past v usable a (let l = usable.agree.wires.0 begun.len lk in omega arith)
-
-  -- row 0 is decided before any pin
-  pub differs_first : ((d : R) → same (get_or card.rows.now 0 d) (get_or part.rows.now 0 d) ≡ false) → Found same card part strikes None
-  differs_first off v usable =
-      let n : ℕ = card.inputs in
-      let pos = pow_pos n in
-      let d : R = row_of n card.whole in
-      let e : carry n v 0 ≡ carry 0 v 0 = carry_up 0 n v 0 (omega arith) (omega arith) in
-      both_ways (same (get_or card.rows.now 0 d) (get_or part.rows.now 0 d)) (off d) (ap (λ y. same (get_or card.rows.now 0 d) (get_or part.rows.now y d)) (sym e) ∙ agree_row same n card.rows.now part.rows.now v usable.agree 0 d (omega arith))
-
-  pub begun_empty : (begun : PartialWiring) (carried : List ℕ) → begun.inputs ≡ card.inputs → begun.len ≡ 0 → card.inputs ≡ part.inputs → get_or carried 0 0 ≡ 0
-      → ((d : R) → same (get_or card.rows.now 0 d) (get_or part.rows.now 0 d) ≡ true) → Begun same card part strikes begun carried
-  begun_empty begun carried en el ep zero_at here =
-      let none : carry begun.len (pin begun.pins) 0 ≡ 0 = ap (λ m. carry m (pin begun.pins) 0) el in
-      let only : (r : ℕ) → r < 2 ^ begun.len → r ≡ 0 = λ r lt. let e : 2 ^ begun.len ≡ 2 ^ 0 = ap (λ m. 2 ^ m) el in omega arith in
+    -- among the wirings that begin with no pin are all
+    pub found : (r : Option Wiring) → Within same search begun r → Found same card part search.strikes.now.struck r
+    found (Some x) h = (
+      h.inputs,
       record {
-        card_inputs = en;
-        part_inputs = en ∙ ep;
-        spared = λ i li. absurd (omega arith);
-        carries = λ r lt. let e = only r lt in ap (λ y. get_or carried y 0) e ∙ zero_at ∙ sym none ∙ ap (λ y. carry begun.len (pin begun.pins) y) (sym e);
-        alike = λ r d lt. let e = only r lt in ap (λ y. same (get_or card.rows.now y d) (get_or part.rows.now (carry begun.len (pin begun.pins) y) d)) e ∙ ap (λ y. same (get_or card.rows.now 0 d) (get_or part.rows.now y d)) none ∙ here d;
-      }
-
-  -- among the wirings that begin with no pin are all
-  pub found : (begun : PartialWiring) → begun.len ≡ 0 → (r : Option Wiring) → Within same card part strikes begun r → Found same card part strikes r
-  found begun el (Some x) h = (
-    h.0,
-    record {
-      usable = h.1;
-      first = λ v usable o. ⊎_elim (λ a. absurd (o.2 (sym (a o.0 o.1)))) (λ b. b) (h.3 v usable (λ i li. absurd (omega arith)));
-    },
-  )
-  found begun el None h = λ v usable. h v usable (λ i li. absurd (omega arith))
+        usable = h.usable;
+        first = λ v usable o. ⊎_elim (λ a. absurd (o.2 (sym (a o.0 o.1)))) (λ b. b) (h.first v usable (λ i li. absurd (omega arith)));
+      },
+    )
+    found None h = λ v usable. h v usable (λ i li. absurd (omega arith))

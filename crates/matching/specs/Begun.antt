@@ -6,12 +6,20 @@ use Rattle.tables.specs.Making.{Extended}
 use Rattle.tables.specs.declared.partial_wiring.PartialWiring.{PartialWiring}
 use Rattle.tables.specs.declared.table.Table.{Table}
 use Rattle.tables.specs.declared.wiring.Wiring.{Wiring}
+use Rattle.matching.specs.declared.search.Search.{Search}
 use Rattle.matching.specs.Struck.{Spared}
 use Rattle.matching.specs.Search.{Usable}
 
 -- the first m places are as they were
 abbrev pub Kept : ℕ → List ℕ → List ℕ → Type 0
 Kept m before after = (r : ℕ) → r < m → slice_index after r ≡ slice_index before r
+
+-- the search is for the same tables and strikes as before, and the first m rows are carried as they were
+pub record SameSearch {R : Type 0} (m : ℕ) (before after : Search R) : Type 0 where
+  pub card : after.card.now ≡ before.card.now
+  pub part : after.part.now ≡ before.part.now
+  pub strikes : after.strikes.now.struck ≡ before.strikes.now.struck
+  pub kept : Kept m before.carried after.carried
 
 -- rows h to h + m - 1 are carried so much further than rows 0 to m - 1, and are the same as the part's rows there
 pub record Settled {R : Type 0} (same : R → R → Bool) (card part : List R) (h m further : ℕ) (before after : List ℕ) : Type 0 where
@@ -22,28 +30,50 @@ pub record Settled {R : Type 0} (same : R → R → Bool) (card part : List R) (
 abbrev pub Differs : {R : Type 0} → (R → R → Bool) → List R → List R → ℕ → ℕ → List ℕ → Type 0
 Differs {R} same card part h further before = (r : ℕ) × (r < h) × ((d : R) → same (slice_index_or card (h + r) d) (slice_index_or part (slice_index before r + further) d) ≡ false)
 
-module _ {R : Type 0} (same : R → R → Bool) (card part : Table R) (strikes : List (List Bool)) where
+-- v begins so
+abbrev pub Begins : PartialWiring → (ℕ → ℕ) → Type 0
+Begins begun v = Alike begun.len v (pin begun.pins)
+
+module _ {R : Type 0} (same : R → R → Bool) (search : Search R) where
+  abbrev card : Table R
+  card = search.card.now
+
+  abbrev part : Table R
+  part = search.part.now
+
+  abbrev strikes : List (List Bool)
+  strikes = search.strikes.now.struck
+
+  -- what deciding rows h to 2h - 1 answers, where their pin carries them so much further
+  abbrev pub Deciding : ℕ → ℕ → Bool → List ℕ → Type 0
+  Deciding h further true carried = Settled same card.rows.now part.rows.now h h further search.carried carried
+  Deciding h further false carried = Differs same card.rows.now part.rows.now h further search.carried
+
   -- the wiring is begun for these tables with no struck pair, the rows that its pins decide are carried as noted, and
   -- are the same as the part's
-  pub record Begun (begun : PartialWiring) (carried : List ℕ) : Type 0 where
+  pub record Begun (begun : PartialWiring) : Type 0 where
     pub card_inputs : begun.inputs ≡ card.inputs
-    pub part_inputs : begun.inputs ≡ part.inputs
     pub spared : Spared strikes begun.len (pin begun.pins)
-    pub carries : (r : ℕ) → r < 2 ^ begun.len → slice_index carried r ≡ carry begun.len (pin begun.pins) r
+    pub carries : (r : ℕ) → r < 2 ^ begun.len → slice_index search.carried r ≡ carry begun.len (pin begun.pins) r
     pub alike : (r : ℕ) (d : R) → r < 2 ^ begun.len → same (slice_index_or card.rows.now r d) (slice_index_or part.rows.now (carry begun.len (pin begun.pins) r) d) ≡ true
 
-  -- v begins so
-  abbrev pub Begins : PartialWiring → (ℕ → ℕ) → Type 0
-  Begins begun v = Alike begun.len v (pin begun.pins)
+  -- no usable wiring that begins so gives the next input pin p
+  abbrev pub Barred : PartialWiring → ℕ → Type 0
+  Barred begun p = (v : ℕ → ℕ) → Usable same card part strikes v → Begins begun v → v begun.len ≢ p
 
-  -- what giving the next input pin p answers; none where no usable wiring goes on so
-  abbrev pub Placing : PartialWiring → ℕ → Option PartialWiring → List ℕ → Type 0
-  Placing begun p (Some longer) carried = Extended begun p (Some longer) × Begun longer carried
-  Placing begun p None carried = (v : ℕ → ℕ) → Usable same card part strikes v → Begins begun v → v begun.len ≢ p
+  -- w is usable and begins so, and is the first in dictionary order
+  pub record FirstFrom (begun : PartialWiring) (w : Wiring) : Type 0 where
+    pub inputs : w.inputs ≡ card.inputs
+    pub usable : Usable same card part strikes (pin w.pins)
+    pub begins : Begins begun (pin w.pins)
+    pub first : (v : ℕ → ℕ) → Usable same card part strikes v → Begins begun v → Alike card.inputs v (pin w.pins) ⊎ Before card.inputs (pin w.pins) v
 
   -- what the search answers among the wirings that begin so
   abbrev pub Within : PartialWiring → Option Wiring → Type 0
-  Within begun (Some w) =
-      (w.inputs ≡ card.inputs) × Usable same card part strikes (pin w.pins) × Begins begun (pin w.pins)
-      × ((v : ℕ → ℕ) → Usable same card part strikes v → Begins begun v → Alike card.inputs v (pin w.pins) ⊎ Before card.inputs (pin w.pins) v)
+  Within begun (Some w) = FirstFrom begun w
   Within begun None = (v : ℕ → ℕ) → Usable same card part strikes v → Begins begun v → ⊥
+
+-- what giving the next input pin p answers; none where no usable wiring goes on so
+abbrev pub Placing : {R : Type 0} → (R → R → Bool) → Search R → PartialWiring → ℕ → Option PartialWiring → Search R → Type 0
+Placing same before begun p (Some longer) after = Extended begun p (Some longer) × Begun same after longer
+Placing same before begun p None after = Barred same before begun p

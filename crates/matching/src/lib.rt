@@ -1,7 +1,5 @@
 #![tactic(auto)]
 
-mod deciding;
-mod placing;
 mod search;
 mod strikes;
 

@@ -1,35 +1,78 @@
-ghost use Rattle.std.specs.Prelude.{◌^◌};
+ghost use Rattle.std.specs.Prelude.{◌≡◌, ℕ, ◌+◌, ◌^◌, ◌<◌, length, slice_index};
 ghost use Rattle.matching.specs.Search.{Found};
-ghost use Rattle.matching.specs.Begun.{Begun, Within, Kept};
 
-use crate::placing::place;
 use crate::strikes::Strikes;
 use rows::RowKind;
 use tables::{PartialWiring, Table, Wiring, total_weight};
 
-// The first usable wiring among those that begin so, pins rising.
-fn extend<R: RowKind>(
-    card: &Table<R>,
-    part: &Table<R>,
-    strikes: &Strikes,
-    begun: &PartialWiring,
-    carried: &mut [u16; 1024],
-) -> Option<Wiring>
-    requires { Begun R.RowKind.same card.now part.now strikes.now.struck begun.now carried.old }
-    ensures answer { Within R.RowKind.same card.now part.now strikes.now.struck begun.now result }
-    ensures kept { Kept (2 ^ begun.now.len) carried.old carried.new }
-{
-    if let Some(wiring) = begun.finish() {
-        return Some(wiring);
+// A search for a wiring of a card to a part, and the part rows that the pins chosen so far carry card rows to.
+#[derive(Drop)]
+struct Search<'a, R> {
+    card: &'a Table<'a, R>,
+    part: &'a Table<'a, R>,
+    strikes: &'a Strikes,
+    carried: [u16; 1024],
+    ghost same_inputs: { card.now.inputs ≡ part.now.inputs },
+}
+
+impl<'a, R: RowKind> Search<'a, R> {
+    ghost use Rattle.matching.specs.Begun.{Begun, Deciding, Placing, SameSearch, Within};
+
+    // Once an input has its pin, the card rows from 2^input to 2^(input+1) - 1 are decided: each is carried 2^pin
+    // further than the row without that bit. Whether each is the same as the part row that it is carried to.
+    fn settle(&mut self, input: usize, pin: usize) -> bool
+        requires input_in { input < self.old.card.now.inputs }
+        requires pin_in { pin < self.old.card.now.inputs }
+        requires targets { (r : ℕ) → r < 2 ^ input → slice_index self.old.carried r + 2 ^ pin < length self.old.part.now.rows.now }
+        ensures answer { Deciding R.RowKind.same self.old (2 ^ input) (2 ^ pin) result self.new.carried }
+        ensures same { SameSearch (2 ^ input) self.old self.new }
+    {
+        let half = 1usize << input;
+        let worth = 1u16 << pin;
+        for (r, row) in self.card.rows[half..2 * half].iter().enumerate() {
+            let q = self.carried[r] + worth;
+            self.carried[half + r] = q;
+            if !row.is_same(&self.part.rows[q as usize]) {
+                return false;
+            }
+        }
+        true
     }
-    for pin in 0..begun.inputs() as u8 {
-        if let Some(longer) = place(card, part, strikes, begun, pin, carried) {
-            if let Some(wiring) = extend(card, part, strikes, &longer, carried) {
+
+    // Gives the next input a pin, if the pin is free, the pair is not struck and no row that this decides differs.
+    fn place(&mut self, begun: &PartialWiring, pin: u8) -> Option<PartialWiring>
+        requires open { begun.now.len < begun.now.inputs }
+        requires begun { Begun R.RowKind.same self.old begun.now }
+        ensures answer { Placing R.RowKind.same self.old begun.now pin result self.new }
+        ensures same { SameSearch (2 ^ begun.now.len) self.old self.new }
+    {
+        let input = begun.len();
+        let at = pin as usize;
+        if self.strikes.is_struck(input, at) {
+            return None;
+        }
+        let longer = begun.with(pin)?;
+        self.settle(input, at).then_some(longer)
+    }
+
+    // The first usable wiring among those that begin so, pins rising.
+    fn extend(&mut self, begun: &PartialWiring) -> Option<Wiring>
+        requires { Begun R.RowKind.same self.old begun.now }
+        ensures answer { Within R.RowKind.same self.old begun.now result }
+        ensures same { SameSearch (2 ^ begun.now.len) self.old self.new }
+    {
+        if let Some(wiring) = begun.finish() {
+            return Some(wiring);
+        }
+        for pin in 0..begun.inputs() as u8 {
+            if let Some(longer) = self.place(begun, pin)
+                && let Some(wiring) = self.extend(&longer)
+            {
                 return Some(wiring);
             }
         }
+        None
     }
-    None
 }
 
 // The first wiring in dictionary order under which card and part agree and which uses no struck pair.
@@ -40,18 +83,20 @@ pub fn first_wiring<R: RowKind>(
 ) -> Option<Wiring>
     ensures { Found R.RowKind.same card.now part.now strikes.now.struck result }
 {
-    if card.inputs != part.inputs {
+    if card.inputs != part.inputs
+        || total_weight(card) != total_weight(part)
+        || !card.rows[0].is_same(&part.rows[0])
+    {
         return None;
     }
-    if total_weight(card) != total_weight(part) {
-        return None;
-    }
-    if !card.rows[0].is_same(&part.rows[0]) {
-        return None;
-    }
-    let mut carried = [0; 1024];
-    match PartialWiring::empty(card.inputs) {
-        Ok(begun) => extend(card, part, strikes, &begun, &mut carried),
-        Err(_) => unreachable(),
-    }
+    let Ok(begun) = PartialWiring::empty(card.inputs) else {
+        unreachable()
+    };
+    let mut search = Search {
+        card,
+        part,
+        strikes,
+        carried: [0; 1024],
+    };
+    search.extend(&begun)
 }

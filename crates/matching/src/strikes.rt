@@ -29,9 +29,6 @@ impl Strikes {
     pub fn is_struck(&self, input: usize, pin: usize) -> bool
         ensures { result ≡ struck self.now.struck input pin }
     {
-        if input >= 10 || pin >= 10 {
-            return false;
-        }
-        self.struck[input][pin]
+        self.struck.get(input).and_then(|row| row.get(pin)) == Some(&true)
     }
 }

@@ -1,0 +1,58 @@
+use Rattle.std.proofs.Common.{◌≡◌, ℕ, ◌+◌, ◌^◌, ◌<◌, ◌≤◌, None, Some, refl, arith, pow_mono}
+use borrow.Author.Count.{below_more}
+use Rattle.matching.specs.Begun.{Barred, SameSearch}
+use Rattle.matching.proofs.Choosing.{grown, same_on, begun_on, barred_on, within_on, whole, none_on, first_on, none_left}
+use Rattle.matching.proofs.search.Search.+extend.Goals as goal
+use Rattle.matching.proofs.search.Search.+extend.Goals.{in_default-2-via-in-None-1, in_default-2-via-in-Some-place+in-None-1}
+
+pub returns-in-Some-clause-answer : goal.returns-in-Some-clause-answer
+returns-in-Some-clause-answer g t c =
+    let done = c.in-Some.ensures in
+    whole g.R.RowKind.same c.args.self.now c.args.begun.now c.requires c.in-Some.wiring done.0 done.1 done.2
+
+pub loop-pin-preserved : goal.loop-pin-preserved
+loop-pin-preserved g t c =
+    let same = g.R.RowKind.same in
+    let self = c.args.self.now in
+    let begun = c.args.begun.now in
+    let pin = c.loop-pin.pin in
+    let was = c.loop-pin.invariant in
+    let placed = same_on same _ self c.loop-pin.self was.same _ c.place.new.self (omega arith) c.place.ensures.same in
+    elim c.in_default-2.branch [
+      | in_default-2-via-in-None-1 way ↦
+          let none : c.place.result ≡ None = cc in
+          rw way.self-is record {
+            same = placed;
+            past = below_more (Barred same self begun) pin was.past (barred_on same _ self c.loop-pin.self was.same begun pin (rw none at c.place.ensures.answer));
+          }
+      | in_default-2-via-in-Some-place+in-None-1 way ↦
+          let none : way.extend.result ≡ None = cc in
+          let longer = way.in-Some-place.longer in
+          let more = grown begun pin longer way.in-Some-place.ensures.answer.0 in
+          rw way.self-is record {
+            same = same_on same _ self c.place.new.self placed (2 ^ longer.len) way.extend.new.self (pow_mono (omega (arith, more.len))) way.extend.ensures.same;
+            past = below_more (Barred same self begun) pin was.past
+                (none_on same self begun pin longer more (within_on same _ self c.place.new.self placed longer None (rw none at way.extend.ensures.answer)));
+          }
+    ]
+
+pub returns-in-loop-pin : goal.returns-in-loop-pin
+returns-in-loop-pin g t c =
+    let same = g.R.RowKind.same in
+    let self = c.args.self.now in
+    let begun = c.args.begun.now in
+    let pin = c.loop-pin.pin in
+    let was = c.loop-pin.invariant in
+    let placed = same_on same _ self c.loop-pin.self was.same _ c.place.new.self (omega arith) c.place.ensures.same in
+    let longer = c.in-Some-place.longer in
+    let more = grown begun pin longer c.in-Some-place.ensures.answer.0 in
+    record {
+      answer = first_on same self begun pin longer more c.in-Some-extend.wiring (omega (arith, c.in_default.ensures, c.requires.card_inputs)) was.past
+          (within_on same _ self c.place.new.self placed longer (Some c.in-Some-extend.wiring) c.in-Some-extend.ensures.answer);
+      same = same_on same _ self c.place.new.self placed (2 ^ longer.len) c.extend.new.self (pow_mono (omega (arith, more.len))) c.extend.ensures.same;
+    }
+
+pub returns-clause-answer : goal.returns-clause-answer
+returns-clause-answer g t c =
+    none_left g.R.RowKind.same c.args.self.now c.args.begun.now c.loop-pin.pin
+    (omega (arith, c.in_default.ensures, c.requires.card_inputs)) (omega (arith, c.loop-pin-test.false, c.inputs-pin-end.ensures, c.requires.card_inputs)) c.loop-pin.invariant.past
