@@ -1,4 +1,4 @@
-use Rattle.std.proofs.Common.{get_or, refl, sym, ap, ◌∙◌, arith, pow_pos, ◌≡◌, ℕ, ◌<◌, length, Bool}
+use Rattle.std.proofs.Common.{◌≡◌, Bool, true, false, get_or, refl, sym, ap, ◌∙◌, arith, pow_pos}
 use Rattle.tables.specs.Sums.{weighed}
 use Rattle.tables.proofs.Reading.{same_inputs, same_rows}
 use Rattle.tables.proofs.Reindex.{total_there}
@@ -6,6 +6,15 @@ use Rattle.tables.specs.declared.table.Table.{Table}
 use Rattle.matching.proofs.Choosing.{differs_first, begun_empty, found}
 use Rattle.matching.proofs.search.first_wiring.Goals as goal
 use Rattle.matching.proofs.search.first_wiring.Goals.{then-card-part-via-then-card-part, then-card-part-via-else-card-part+then-total_weight, then-card-part-via-else-card-part+else-total_weight+then-not-is_same}
+
+-- row 0 of each was read and compared
+first_rows : {R : Type 0} (same : R → R → Bool) (card part : Table R) (x y : R) (b : Bool) → x ≡ get_or card.rows.now 0 x → y ≡ get_or part.rows.now 0 y
+    → b ≡ same (get_or card.rows.now 0 x) (get_or part.rows.now 0 y) → (d : R) → same (get_or card.rows.now 0 d) (get_or part.rows.now 0 d) ≡ b
+first_rows same card part x y b ex ey e =
+    let pc = pow_pos card.inputs in
+    let pp = pow_pos part.inputs in
+    same_rows same card.rows.now part.rows.now 0 0 x y b (omega (arith, card.whole)) (omega (arith, part.whole)) ex ey
+    (ap (λ z. same z y) ex ∙ ap (λ z. same (get_or card.rows.now 0 x) z) ey ∙ sym e)
 
 pub returns-then-card-part : goal.returns-then-card-part
 returns-then-card-part g c =
@@ -15,34 +24,23 @@ returns-then-card-part g c =
     let part = c.args.part.now in
     elim c.then-card-part.branch [
       | then-card-part-via-then-card-part way ↦ λ w usable.
-          way.if-card-part.true (sym (same_inputs part.inputs card.inputs (sym part.whole ∙ usable.agree.part_rows)))
+          way.if-card-part.true (same_inputs card.inputs part.inputs (sym usable.agree.part_rows ∙ part.whole))
       | then-card-part-via-else-card-part+then-total_weight way ↦ λ w usable.
           let a = usable.agree in
           way.if-total_weight.true
           (way.total_weight.ensures ∙ total_there same weight g.met.R.RowKind.alike card.inputs card.rows.now part.rows.now w a
           ∙ ap (λ k. weighed weight part.rows.now k) (sym a.part_rows ∙ part.whole) ∙ sym way.total_weight-else-card-part.ensures)
       | then-card-part-via-else-card-part+else-total_weight+then-not-is_same way ↦
-          let pc = pow_pos card.inputs in
-          let pp = pow_pos part.inputs in
-          let x = way.index-card-0 in
-          let y = way.index-part-0 in
           differs_first same card part c.args.strikes.now.struck
-          (same_rows same card.rows.now part.rows.now 0 0 x.result y.result _ (omega (arith, pc, card.whole)) (omega (arith, pp, part.whole)) x.is y.is
-          (ap (λ z. same z y.result) x.is ∙ ap (λ z. same (get_or card.rows.now 0 x.result) z) y.is ∙ sym way.if-not-is_same.ensures))
+          (first_rows same card part way.index-card-0.result way.index-part-0.result false way.index-card-0.is way.index-part-0.is way.if-not-is_same.ensures)
     ]
 
 pub extend-requires : goal.extend-requires
 extend-requires g c =
     let same = g.R.RowKind.same in
-    let card = c.args.card.now in
-    let part = c.args.part.now in
-    let pc = pow_pos card.inputs in
-    let pp = pow_pos part.inputs in
-    let x = c.index-card-0 in
-    let y = c.index-part-0 in
-    begun_empty same _ c.in-Ok.begun c.in-Ok.ensures.1.1 c.in-Ok.ensures.1.0 refl
-    (same_rows same card.rows.now part.rows.now 0 0 x.result y.result _ (omega (arith, pc, card.whole)) (omega (arith, pp, part.whole)) x.is y.is
-    (ap (λ z. same z y.result) x.is ∙ ap (λ z. same (get_or card.rows.now 0 x.result) z) y.is ∙ sym c.if-not-is_same.ensures))
+    let empty = c.in-Ok.ensures.1 in
+    begun_empty same _ c.in-Ok.begun empty.1 empty.0 refl
+    (first_rows same c.args.card.now c.args.part.now c.index-card-0.result c.index-part-0.result true c.index-card-0.is c.index-part-0.is c.if-not-is_same.ensures)
 
 pub returns : goal.returns
 returns g c = found g.R.RowKind.same _ c.in-Ok.begun c.in-Ok.ensures.1.1 _ c.extend.ensures.answer

@@ -1,7 +1,7 @@
-use Rattle.std.proofs.Common.{◌≡◌, ℕ, ◌+◌, ◌^◌, ◌<◌, ◌≤◌, None, Some, refl, arith, pow_mono}
+use Rattle.std.proofs.Common.{◌≡◌, ◌^◌, None, Some, arith, pow_mono}
 use borrow.Author.Count.{below_more}
-use Rattle.matching.specs.Begun.{Barred, SameSearch}
-use Rattle.matching.proofs.Choosing.{grown, same_on, begun_on, barred_on, within_on, whole, none_on, first_on, none_left}
+use Rattle.matching.specs.Begun.{Barred}
+use Rattle.matching.proofs.Choosing.{grown, same_on, barred_on, within_on, whole, none_on, first_on, none_left}
 use Rattle.matching.proofs.search.Search.+extend.Goals as goal
 use Rattle.matching.proofs.search.Search.+extend.Goals.{in_default-2-via-in-None-1, in_default-2-via-in-Some-place+in-None-1}
 

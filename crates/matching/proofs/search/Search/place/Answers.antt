@@ -1,5 +1,5 @@
-use Rattle.std.proofs.Common.{◌≡◌, ◌+◌, ◌^◌, ◌<◌, ap, ◌∙◌, sym, arith}
-use Rattle.matching.specs.Begun.{Deciding}
+use Rattle.std.proofs.Common.{◌≡◌, false}
+use Rattle.matching.specs.Struck.{struck}
 use Rattle.matching.proofs.Choosing.{grown, in_part, decided}
 use Rattle.matching.proofs.search.Search.place.Goals as goal
 
@@ -14,7 +14,7 @@ returns-clause-answer g c =
     let self = c.args.self.now in
     let begun = c.args.begun.now in
     let longer = c.in_ok-longer.longer in
-    let free = rw c.len-input.ensures at (sym c.is_struck.ensures ∙ c.if-is_struck.false) in
+    let free : struck self.strikes.now.struck begun.len c.args.pin ≡ false = cc in
     rw c.then_some.ensures
     (decided same self begun c.requires.begun c.args.pin longer c.in_ok-longer.ensures c.requires.open free c.settle.new.self
     (rw c.len-input.ensures at c.settle.ensures.same) c.settle.result (rw c.len-input.ensures at c.settle.ensures.answer))

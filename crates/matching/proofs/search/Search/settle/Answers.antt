@@ -1,6 +1,6 @@
-use Rattle.std.proofs.Common.{rules, ◌≡◌, ℕ, suc, ◌+◌, ◌-◌, ◌*◌, ◌%◌, ◌^◌, ◌<◌, ◌≤◌, List, length, get_or, take, drop, sym, ap, ◌∙◌, arith, pow_mono, true, length-take, length-drop, length-set}
+use Rattle.std.proofs.Common.{◌≡◌, ℕ, suc, ◌+◌, ◌-◌, ◌*◌, ◌%◌, ◌^◌, ◌<◌, ◌≤◌, length, get_or, drop, sym, ap, ◌∙◌, arith, pow_mono, true, length-take}
 use Rattle.std.proofs.lemmas.List.{get_or-take, get_or-drop}
-use Rattle.tables.proofs.Shifts.{pow_small, shift}
+use Rattle.tables.proofs.Shifts.{shift}
 use Rattle.tables.specs.declared.table.Table.{Table}
 use Rattle.std.proofs.Math.Nat.{two-pow-succ}
 use Rattle.tables.proofs.Reading.{same_rows}
