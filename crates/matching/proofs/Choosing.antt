@@ -1,5 +1,6 @@
 -- The steps of the search: a pin more, a pin that no usable wiring goes on with, and the end.
 use Rattle.std.proofs.Common.{◌≡◌, ℕ, suc, ◌+◌, ◌-◌, ◌^◌, ◌<◌, ◌≤◌, Bool, true, false, List, [], ◌∷◌, length, get_or, Some, None, Option, sym, ap, ◌∙◌, subst, inl, inr, refl, ⊎_elim, add-one, arith, pow_pos, pow_mono}
+use borrow.Author.Count.{below_more}
 use Rattle.std.specs.Bool.{then_some}
 use Rattle.std.proofs.lemmas.Bool.{cases_eq, cases_lt, both_ways}
 use Rattle.std.proofs.Math.Nat.{two-pow-succ}
@@ -21,6 +22,10 @@ some (x ∷ xs) lt = x
 
 a_row : {R : Type 0} → Table R → R
 a_row table = let pos = pow_pos table.inputs in some table.rows.now (omega (arith, table.whole))
+
+-- what holds of the lower and of the upper half
+halves : (P : ℕ → Type 0) (h m : ℕ) → m ≡ h + h → ((r : ℕ) → r < h → P r) → ((r : ℕ) → r < h → P (h + r)) → (r : ℕ) → r < m → P r
+halves P h m e low high r lt = ⊎_elim (low r) (λ ge. let x : h + (r - h) ≡ r = omega arith in subst P x (high (r - h) (omega arith))) (cases_lt r h)
 
 -- the longer wiring gives the next input pin p
 pub record Grown (begun : PartialWiring) (p : ℕ) (longer : PartialWiring) : Type 0 where
@@ -47,44 +52,45 @@ module _ {R : Type 0} (same : R → R → Bool) where
       let pos = pow_pos card.inputs in
       differs_none card part strikes 0 0 v pos (carry_up 0 card.inputs v 0 (omega arith) (omega arith)) off
 
-module _ {R : Type 0} (same : R → R → Bool) (m : ℕ) (before after : Search R) (on : SameSearch m before after) where
-  usable_on : (v : ℕ → ℕ) → Usable same before.card.now before.part.now before.strikes.now.struck v → Usable same after.card.now after.part.now after.strikes.now.struck v
-  usable_on v usable = rw (on.card, on.part, on.strikes) usable
-
-  usable_back : (v : ℕ → ℕ) → Usable same after.card.now after.part.now after.strikes.now.struck v → Usable same before.card.now before.part.now before.strikes.now.struck v
-  usable_back v usable = rw (← on.card, ← on.part, ← on.strikes) usable
-
-  pub same_on : (k : ℕ) (last : Search R) → m ≤ k → SameSearch k after last → SameSearch m before last
-  same_on k last le more = record {
+module _ {R : Type 0} {m : ℕ} {before after : Search R} (on : SameSearch m before after) where
+  pub same_on : {k : ℕ} {last : Search R} → SameSearch k after last → m ≤ k → SameSearch m before last
+  same_on more le = record {
     card = more.card ∙ on.card;
     part = more.part ∙ on.part;
     strikes = more.strikes ∙ on.strikes;
     kept = λ r lt. more.kept r (omega arith) ∙ on.kept r lt;
   }
 
-  pub begun_on : (begun : PartialWiring) → m ≡ 2 ^ begun.len → Begun same before begun → Begun same after begun
-  begun_on begun e h = record {
-    card_inputs = h.card_inputs ∙ ap (λ t. t.inputs) (sym on.card);
-    spared = rw on.strikes h.spared;
-    carries = λ r lt. on.kept r (omega arith) ∙ h.carries r lt;
-    alike = λ r d lt.
-        ap (λ t. same (get_or t.rows.now r d) (get_or after.part.now.rows.now (carry begun.len (pin begun.pins) r) d)) on.card
-        ∙ ap (λ t. same (get_or before.card.now.rows.now r d) (get_or t.rows.now (carry begun.len (pin begun.pins) r) d)) on.part ∙ h.alike r d lt;
-  }
+  module _ (same : R → R → Bool) where
+    usable_on : (v : ℕ → ℕ) → Usable same before.card.now before.part.now before.strikes.now.struck v → Usable same after.card.now after.part.now after.strikes.now.struck v
+    usable_on v usable = rw (on.card, on.part, on.strikes) usable
 
-  pub barred_on : (begun : PartialWiring) (p : ℕ) → Barred same after begun p → Barred same before begun p
-  barred_on begun p barred v usable = barred v (usable_on v usable)
+    usable_back : (v : ℕ → ℕ) → Usable same after.card.now after.part.now after.strikes.now.struck v → Usable same before.card.now before.part.now before.strikes.now.struck v
+    usable_back v usable = rw (← on.card, ← on.part, ← on.strikes) usable
 
-  pub within_on : (begun : PartialWiring) (r : Option Wiring) → Within same after begun r → Within same before begun r
-  within_on begun (Some x) h = record {
-    inputs = rw (← on.card) h.inputs;
-    usable = usable_back (pin x.pins) h.usable;
-    begins = h.begins;
-    first = λ v usable a. rw (← on.card) (h.first v (usable_on v usable) a);
-  }
-  within_on begun None h = λ v usable. h v (usable_on v usable)
+    begun_on : (begun : PartialWiring) → m ≡ 2 ^ begun.len → Begun same before begun → Begun same after begun
+    begun_on begun e h = record {
+      card_inputs = h.card_inputs ∙ ap (λ t. t.inputs) (sym on.card);
+      spared = rw on.strikes h.spared;
+      carries = λ r lt. on.kept r (omega arith) ∙ h.carries r lt;
+      alike = λ r d lt.
+          ap (λ t. same (get_or t.rows.now r d) (get_or after.part.now.rows.now (carry begun.len (pin begun.pins) r) d)) on.card
+          ∙ ap (λ t. same (get_or before.card.now.rows.now r d) (get_or t.rows.now (carry begun.len (pin begun.pins) r) d)) on.part ∙ h.alike r d lt;
+    }
 
-module _ {R : Type 0} (same : R → R → Bool) (search : Search R) (begun : PartialWiring) where
+    pub barred_on : (begun : PartialWiring) (p : ℕ) → Barred same after begun p → Barred same before begun p
+    barred_on begun p barred v usable = barred v (usable_on v usable)
+
+    pub within_on : (begun : PartialWiring) (r : Option Wiring) → Within same after begun r → Within same before begun r
+    within_on begun (Some x) h = record {
+      inputs = rw (← on.card) h.inputs;
+      usable = usable_back (pin x.pins) h.usable;
+      begins = h.begins;
+      first = λ v usable a. rw (← on.card) (h.first v (usable_on v usable) a);
+    }
+    within_on begun None h = λ v usable. h v (usable_on v usable)
+
+module _ {R : Type 0} {same : R → R → Bool} {search : Search R} {begun : PartialWiring} (h : Begun same search begun) where
   abbrev card : Table R
   card = search.card.now
 
@@ -100,143 +106,129 @@ module _ {R : Type 0} (same : R → R → Bool) (search : Search R) (begun : Par
   abbrev w : ℕ → ℕ
   w = pin begun.pins
 
-  module _ (h : Begun same search begun) where
-    part_whole : length part.rows.now ≡ 2 ^ begun.inputs
-    part_whole = part.whole ∙ ap (λ n. 2 ^ n) (sym (h.card_inputs ∙ search.same_inputs))
+  part_whole : length part.rows.now ≡ 2 ^ begun.inputs
+  part_whole = part.whole ∙ ap (λ n. 2 ^ n) (sym (h.card_inputs ∙ search.same_inputs))
 
-    -- the rows that the next pin decides
-    module _ (p : ℕ) (longer : PartialWiring) (g : Grown begun p longer) where
-      abbrev u : ℕ → ℕ
-      u = pin longer.pins
+  -- the rows that the next pin decides
+  module _ {p : ℕ} {longer : PartialWiring} (g : Grown begun p longer) where
+    abbrev u : ℕ → ℕ
+    u = pin longer.pins
 
-      -- they are carried so much further than those without the bit
-      carry_next : (r : ℕ) → r < 2 ^ k → get_or carried r 0 + 2 ^ p ≡ carry (suc k) u (2 ^ k + r)
-      carry_next r lt = let a = carry_high k u r lt in let b = carry_ext k u w r g.before in let m = h.carries r lt in let y : 2 ^ u k ≡ 2 ^ p = ap (λ z. 2 ^ z) g.next in omega arith
+    -- they are carried so much further than those without the bit
+    carry_next : (r : ℕ) → r < 2 ^ k → get_or carried r 0 + 2 ^ p ≡ carry (suc k) u (2 ^ k + r)
+    carry_next r lt = let a = carry_high k u r lt in let b = carry_ext k u w r g.before in let m = h.carries r lt in let y : 2 ^ u k ≡ 2 ^ p = ap (λ z. 2 ^ z) g.next in omega arith
 
-      placed : Placed begun.inputs (suc k) u
-      placed = ((λ i li. let l = longer.into i (omega (arith, g.len)) in omega (arith, g.inputs)), (λ i j t. let a = t.0 in let b = t.1 in longer.apart i j (omega (arith, g.len), omega (arith, g.len), t.2)))
+    placed : Placed begun.inputs (suc k) u
+    placed = ((λ i li. let l = longer.into i (omega (arith, g.len)) in omega (arith, g.inputs)), (λ i j t. let a = t.0 in let b = t.1 in longer.apart i j (omega (arith, g.len), omega (arith, g.len), t.2)))
 
-      -- they lie in the part
-      pub in_part : (r : ℕ) → r < 2 ^ k → get_or carried r 0 + 2 ^ p < length part.rows.now
-      in_part r lt = let c = carry_lt begun.inputs (suc k) u (2 ^ k + r) placed in omega (arith, carry_next r lt, part_whole)
+    -- they lie in the part
+    pub in_part : (r : ℕ) → r < 2 ^ k → get_or carried r 0 + 2 ^ p < length part.rows.now
+    in_part r lt = let c = carry_lt begun.inputs (suc k) u (2 ^ k + r) placed in omega (arith, carry_next r lt, part_whole)
 
-      pub begun_more : (after : Search R) → SameSearch (2 ^ k) search after → struck search.strikes.now.struck k p ≡ false
-          → Settled same card.rows.now part.rows.now (2 ^ k) (2 ^ k) (2 ^ p) carried after.carried → Begun same after longer
-      begun_more after on free s =
-          let up : (r : ℕ) → carry longer.len u r ≡ carry (suc k) u r = λ r. ap (λ m. carry m u r) (g.len ∙ add-one k) in
-          let low : (r : ℕ) → r < 2 ^ k → carry k w r ≡ carry longer.len u r = λ r lt. sym (carry_ext k u w r g.before) ∙ sym (carry_low k u r lt) ∙ sym (up r) in
-          let high : (r : ℕ) → r < 2 ^ k → get_or carried r 0 + 2 ^ p ≡ carry longer.len u (2 ^ k + r) = λ r lt. carry_next r lt ∙ sym (up (2 ^ k + r)) in
-          let two : 2 ^ longer.len ≡ 2 ^ k + 2 ^ k = ap (λ m. 2 ^ m) (g.len ∙ add-one k) ∙ two-pow-succ k in
-          let moved : Search R = record { card = search.card; part = search.part; strikes = search.strikes; carried = after.carried; same_inputs = search.same_inputs } in
-          begun_on same (2 ^ longer.len) moved after record { card = on.card; part = on.part; strikes = on.strikes; kept = λ r lt. refl } longer refl record {
-            card_inputs = g.inputs ∙ h.card_inputs;
-            spared = λ i li. ⊎_elim
-                (λ l. ap (λ y. struck search.strikes.now.struck i y) (g.before i l) ∙ h.spared i l)
-                (λ ge. let e : i ≡ k = omega (arith, g.len) in ap (λ y. struck search.strikes.now.struck y (u y)) e ∙ ap (λ y. struck search.strikes.now.struck k y) g.next ∙ free)
-                (cases_lt i k);
-            carries = λ r lt. ⊎_elim
-                (λ l. on.kept r l ∙ h.carries r l ∙ low r l)
-                (λ ge.
-                let e : r ≡ 2 ^ k + (r - 2 ^ k) = omega arith in
-                let l : r - 2 ^ k < 2 ^ k = omega arith in
-                ap (λ y. get_or after.carried y 0) e ∙ s.carries (r - 2 ^ k) l ∙ high (r - 2 ^ k) l ∙ ap (λ y. carry longer.len u y) (sym e))
-                (cases_lt r (2 ^ k));
-            alike = λ r d lt. ⊎_elim
-                (λ l. ap (λ y. same (get_or card.rows.now r d) (get_or part.rows.now y d)) (sym (low r l)) ∙ h.alike r d l)
-                (λ ge.
-                let e : r ≡ 2 ^ k + (r - 2 ^ k) = omega arith in
-                let l : r - 2 ^ k < 2 ^ k = omega arith in
-                subst (λ z. same (get_or card.rows.now z d) (get_or part.rows.now (carry longer.len u z) d) ≡ true) (sym e)
-                (ap (λ y. same (get_or card.rows.now (2 ^ k + (r - 2 ^ k)) d) (get_or part.rows.now y d)) (sym (high (r - 2 ^ k) l)) ∙ s.alike (r - 2 ^ k) d l))
-                (cases_lt r (2 ^ k));
-          }
-
-    -- a row that is not the same shuts out every usable wiring that goes on so
-    pub differs_barred : (p : ℕ) → k < begun.inputs → Differs same card.rows.now part.rows.now (2 ^ k) (2 ^ p) carried → Barred same search begun p
-    differs_barred p lk f v usable a new =
-        let n = card.inputs in
-        let r = f.0 in
-        let le : suc k ≤ n = omega (arith, h.card_inputs) in
-        let top : 2 ^ suc k ≤ 2 ^ n = pow_mono le in
-        let two = two-pow-succ k in
-        let step = carry_up (suc k) n v (2 ^ k + r) le (omega (arith, f.1)) in
-        let b = carry_high k v r f.1 in
-        let x = carry_ext k v w r a in
-        let m = h.carries r f.1 in
-        let y : 2 ^ v k ≡ 2 ^ p = ap (λ z. 2 ^ z) new in
-        differs_none same card part search.strikes.now.struck (2 ^ k + r) (get_or carried r 0 + 2 ^ p) v (omega (arith, f.1)) (omega arith) f.2 usable
-
-    -- the rows of the next pin are decided
-    pub decided : (p : ℕ) (longer : PartialWiring) → Extended begun p (Some longer) → k < begun.inputs → struck search.strikes.now.struck k p ≡ false → (after : Search R) → SameSearch (2 ^ k) search after
-        → (alike : Bool) → Deciding same search (2 ^ k) (2 ^ p) alike after.carried → Placing same search begun p (then_some alike longer) after
-    decided p longer e lk free after on true s = (e, begun_more p longer (grown begun p longer e) after on free s)
-    decided p longer e lk free after on false f = differs_barred p lk f
-
-    -- all inputs have their pins
-    pub whole : (x : Wiring) → k ≡ begun.inputs → x.inputs ≡ begun.inputs → x.pins ≡ begun.pins → FirstFrom same search begun x
-    whole x e en ep =
-        let n : ℕ = card.inputs in
-        let ek : k ≡ n = e ∙ h.card_inputs in
-        let v = pin x.pins in
-        let ea : (i : ℕ) → v i ≡ w i = λ i. ap (λ l. pin l i) ep in
-        let inside : (i : ℕ) → i < n → i < k = λ i li. omega arith in
-        let wires : Wires n v = ((λ i li. let l = x.into i (omega (arith, h.card_inputs)) in omega (arith, h.card_inputs)), (λ i j t. let a = t.0 in let b = t.1 in x.apart i j (omega (arith, h.card_inputs), omega (arith, h.card_inputs), t.2))) in
-        record {
-          inputs = en ∙ h.card_inputs;
-          usable = record {
-            agree = rows_agree same n card.rows.now part.rows.now v wires card.whole (part_whole ∙ ap (λ m. 2 ^ m) h.card_inputs)
-                (λ r d lr. ap (λ y. same (get_or card.rows.now r d) (get_or part.rows.now y d)) (carry_ext n v w r (λ i _. ea i) ∙ ap (λ m. carry m w r) (sym ek)) ∙ h.alike r d (subst (λ m. r < 2 ^ m) (sym ek) lr));
-            spared = λ i li. ap (λ y. struck search.strikes.now.struck i y) (ea i) ∙ h.spared i (inside i li);
-          };
-          begins = λ i li. ea i;
-          first = λ v' usable a. inl (λ i li. a i (inside i li) ∙ sym (ea i));
+    pub begun_more : (after : Search R) → SameSearch (2 ^ k) search after → struck search.strikes.now.struck k p ≡ false
+        → Settled same card.rows.now part.rows.now (2 ^ k) (2 ^ k) (2 ^ p) carried after.carried → Begun same after longer
+    begun_more after on free s =
+        let up : (r : ℕ) → carry longer.len u r ≡ carry (suc k) u r = λ r. ap (λ m. carry m u r) (g.len ∙ add-one k) in
+        let low : (r : ℕ) → r < 2 ^ k → carry k w r ≡ carry longer.len u r = λ r lt. sym (carry_ext k u w r g.before) ∙ sym (carry_low k u r lt) ∙ sym (up r) in
+        let high : (r : ℕ) → r < 2 ^ k → get_or carried r 0 + 2 ^ p ≡ carry longer.len u (2 ^ k + r) = λ r lt. carry_next r lt ∙ sym (up (2 ^ k + r)) in
+        let two : 2 ^ longer.len ≡ 2 ^ k + 2 ^ k = ap (λ m. 2 ^ m) (g.len ∙ add-one k) ∙ two-pow-succ k in
+        let moved : Search R = record { card = search.card; part = search.part; strikes = search.strikes; carried = after.carried; same_inputs = search.same_inputs } in
+        begun_on {before = moved} record { card = on.card; part = on.part; strikes = on.strikes; kept = λ r lt. refl } same longer refl record {
+          card_inputs = g.inputs ∙ h.card_inputs;
+          spared = λ i li. below_more (λ i. struck search.strikes.now.struck i (u i) ≡ false) k
+              (λ i l. ap (λ y. struck search.strikes.now.struck i y) (g.before i l) ∙ h.spared i l) (ap (λ y. struck search.strikes.now.struck k y) g.next ∙ free) i (omega (arith, g.len));
+          carries = halves (λ r. get_or after.carried r 0 ≡ carry longer.len u r) (2 ^ k) (2 ^ longer.len) two
+              (λ r l. on.kept r l ∙ h.carries r l ∙ low r l)
+              (λ r l. s.carries r l ∙ high r l);
+          alike = λ r d. halves (λ r. same (get_or card.rows.now r d) (get_or part.rows.now (carry longer.len u r) d) ≡ true) (2 ^ k) (2 ^ longer.len) two
+              (λ r l. ap (λ y. same (get_or card.rows.now r d) (get_or part.rows.now y d)) (sym (low r l)) ∙ h.alike r d l)
+              (λ r l. ap (λ y. same (get_or card.rows.now (2 ^ k + r) d) (get_or part.rows.now y d)) (sym (high r l)) ∙ s.alike r d l) r;
         }
 
-  module _ (p : ℕ) (longer : PartialWiring) (g : Grown begun p longer) where
-    goes_on : (v : ℕ → ℕ) → Begins begun v → v k ≡ p → Begins longer v
-    goes_on v a e i li = ⊎_elim
-        (λ l. a i l ∙ sym (g.before i l))
-        (λ ge. let x : i ≡ k = omega (arith, g.len) in ap v x ∙ e ∙ sym g.next ∙ ap (pin longer.pins) (sym x))
-        (cases_lt i k)
+  -- a row that is not the same shuts out every usable wiring that goes on so
+  pub differs_barred : (p : ℕ) → k < begun.inputs → Differs same card.rows.now part.rows.now (2 ^ k) (2 ^ p) carried → Barred same search begun p
+  differs_barred p lk f v usable a new =
+      let n = card.inputs in
+      let r = f.0 in
+      let le : suc k ≤ n = omega (arith, h.card_inputs) in
+      let top : 2 ^ suc k ≤ 2 ^ n = pow_mono le in
+      let two = two-pow-succ k in
+      let step = carry_up (suc k) n v (2 ^ k + r) le (omega (arith, f.1)) in
+      let b = carry_high k v r f.1 in
+      let x = carry_ext k v w r a in
+      let m = h.carries r f.1 in
+      let y : 2 ^ v k ≡ 2 ^ p = ap (λ z. 2 ^ z) new in
+      differs_none same card part search.strikes.now.struck (2 ^ k + r) (get_or carried r 0 + 2 ^ p) v (omega (arith, f.1)) (omega arith) f.2 usable
 
-    pub none_on : Within same search longer None → Barred same search begun p
-    none_on none v usable a e = none v usable (goes_on v a e)
+  -- the rows of the next pin are decided
+  pub decided : (p : ℕ) (longer : PartialWiring) → Extended begun p (Some longer) → k < begun.inputs → struck search.strikes.now.struck k p ≡ false → (after : Search R) → SameSearch (2 ^ k) search after
+      → (alike : Bool) → Deciding same search (2 ^ k) (2 ^ p) alike after.carried → Placing same search begun p (then_some alike longer) after
+  decided p longer e lk free after on true s = (e, begun_more (grown begun p longer e) after on free s)
+  decided p longer e lk free after on false f = differs_barred p lk f
 
-    pub first_on : (x : Wiring) → k < card.inputs → ((q : ℕ) → q < p → Barred same search begun q) → FirstFrom same search longer x → FirstFrom same search begun x
-    first_on x lk past found =
-        let begins : Begins begun (pin x.pins) = λ i li. found.begins i (omega (arith, g.len)) ∙ g.before i li in
-        let at_k : pin x.pins k ≡ p = found.begins k (omega (arith, g.len)) ∙ g.next in
-        record {
-          inputs = found.inputs;
-          usable = found.usable;
-          begins = begins;
-          first = λ v usable a. ⊎_elim
-              (λ lt. absurd (past (v k) lt v usable a refl))
-              (λ ge. ⊎_elim
-              (λ e. found.first v usable (goes_on v a e))
-              (λ ne. inr (k, lk, (λ i li. begins i li ∙ sym (a i li)), omega arith))
-              (cases_eq (v k) p))
-              (cases_lt (v k) p);
-        }
+  -- all inputs have their pins
+  pub whole : (x : Wiring) → k ≡ begun.inputs → x.inputs ≡ begun.inputs → x.pins ≡ begun.pins → FirstFrom same search begun x
+  whole x e en ep =
+      let n : ℕ = card.inputs in
+      let ek : k ≡ n = e ∙ h.card_inputs in
+      let v = pin x.pins in
+      let ea : (i : ℕ) → v i ≡ w i = λ i. ap (λ l. pin l i) ep in
+      let inside : (i : ℕ) → i < n → i < k = λ i li. omega arith in
+      let wires : Wires n v = ((λ i li. let l = x.into i (omega (arith, h.card_inputs)) in omega (arith, h.card_inputs)), (λ i j t. let a = t.0 in let b = t.1 in x.apart i j (omega (arith, h.card_inputs), omega (arith, h.card_inputs), t.2))) in
+      record {
+        inputs = en ∙ h.card_inputs;
+        usable = record {
+          agree = rows_agree same n card.rows.now part.rows.now v wires card.whole (part_whole ∙ ap (λ m. 2 ^ m) h.card_inputs)
+              (λ r d lr. ap (λ y. same (get_or card.rows.now r d) (get_or part.rows.now y d)) (carry_ext n v w r (λ i _. ea i) ∙ ap (λ m. carry m w r) (sym ek)) ∙ h.alike r d (subst (λ m. r < 2 ^ m) (sym ek) lr));
+          spared = λ i li. ap (λ y. struck search.strikes.now.struck i y) (ea i) ∙ h.spared i (inside i li);
+        };
+        begins = λ i li. ea i;
+        first = λ v' usable a. inl (λ i li. a i (inside i li) ∙ sym (ea i));
+      }
 
-  pub none_left : (p : ℕ) → k < card.inputs → card.inputs ≤ p → ((q : ℕ) → q < p → Barred same search begun q) → Within same search begun None
-  none_left p lk le past v usable a = past (v k) (let l = usable.agree.wires.0 k lk in omega arith) v usable a refl
+module _ {begun : PartialWiring} {p : ℕ} {longer : PartialWiring} (g : Grown begun p longer) where
+  goes_on : (v : ℕ → ℕ) → Begins begun v → v begun.len ≡ p → Begins longer v
+  goes_on v a e i li = below_more (λ i. v i ≡ pin longer.pins i) begun.len (λ i l. a i l ∙ sym (g.before i l)) (e ∙ sym g.next) i (omega (arith, g.len))
 
-  module _ (none : k ≡ 0) where
-    pub begun_empty : begun.inputs ≡ card.inputs → get_or carried 0 0 ≡ 0 → ((d : R) → same (get_or card.rows.now 0 d) (get_or part.rows.now 0 d) ≡ true) → Begun same search begun
+  pub none_on : {R : Type 0} (same : R → R → Bool) (search : Search R) → Within same search longer None → Barred same search begun p
+  none_on same search none v usable a e = none v usable (goes_on v a e)
+
+  pub first_on : {R : Type 0} {same : R → R → Bool} {search : Search R} (x : Wiring) → begun.len < search.card.now.inputs → ((q : ℕ) → q < p → Barred same search begun q) → FirstFrom same search longer x → FirstFrom same search begun x
+  first_on x lk past found =
+      let begins : Begins begun (pin x.pins) = λ i li. found.begins i (omega (arith, g.len)) ∙ g.before i li in
+      let at_k : pin x.pins begun.len ≡ p = found.begins begun.len (omega (arith, g.len)) ∙ g.next in
+      record {
+        inputs = found.inputs;
+        usable = found.usable;
+        begins = begins;
+        first = λ v usable a. ⊎_elim
+            (λ lt. absurd (past (v begun.len) lt v usable a refl))
+            (λ ge. ⊎_elim
+            (λ e. found.first v usable (goes_on v a e))
+            (λ ne. inr (begun.len, lk, (λ i li. begins i li ∙ sym (a i li)), omega arith))
+            (cases_eq (v begun.len) p))
+            (cases_lt (v begun.len) p);
+      }
+
+module _ {R : Type 0} (same : R → R → Bool) (search : Search R) (begun : PartialWiring) where
+  pub none_left : (p : ℕ) → begun.len < search.card.now.inputs → search.card.now.inputs ≤ p → ((q : ℕ) → q < p → Barred same search begun q) → Within same search begun None
+  none_left p lk le past v usable a = past (v begun.len) (let l = usable.agree.wires.0 begun.len lk in omega arith) v usable a refl
+
+  module _ (none : begun.len ≡ 0) where
+    pub begun_empty : begun.inputs ≡ search.card.now.inputs → get_or search.carried 0 0 ≡ 0 → ((d : R) → same (get_or search.card.now.rows.now 0 d) (get_or search.part.now.rows.now 0 d) ≡ true) → Begun same search begun
     begun_empty en zero_at here =
-        let only : (r : ℕ) → r < 2 ^ k → r ≡ 0 = λ r lt. let e : 2 ^ k ≡ 2 ^ 0 = ap (λ m. 2 ^ m) none in omega arith in
-        let at_zero : carry k w 0 ≡ 0 = ap (λ m. carry m w 0) none in
+        let only : (r : ℕ) → r < 2 ^ begun.len → r ≡ 0 = λ r lt. let e : 2 ^ begun.len ≡ 2 ^ 0 = ap (λ m. 2 ^ m) none in omega arith in
+        let at_zero : carry begun.len (pin begun.pins) 0 ≡ 0 = ap (λ m. carry m (pin begun.pins) 0) none in
         record {
           card_inputs = en;
           spared = λ i li. absurd (omega arith);
-          carries = λ r lt. subst (λ y. get_or carried y 0 ≡ carry k w y) (sym (only r lt)) (zero_at ∙ sym at_zero);
-          alike = λ r d lt. subst (λ y. same (get_or card.rows.now y d) (get_or part.rows.now (carry k w y) d) ≡ true) (sym (only r lt))
-              (ap (λ y. same (get_or card.rows.now 0 d) (get_or part.rows.now y d)) at_zero ∙ here d);
+          carries = λ r lt. subst (λ y. get_or search.carried y 0 ≡ carry begun.len (pin begun.pins) y) (sym (only r lt)) (zero_at ∙ sym at_zero);
+          alike = λ r d lt. subst (λ y. same (get_or search.card.now.rows.now y d) (get_or search.part.now.rows.now (carry begun.len (pin begun.pins) y) d) ≡ true) (sym (only r lt))
+              (ap (λ y. same (get_or search.card.now.rows.now 0 d) (get_or search.part.now.rows.now y d)) at_zero ∙ here d);
         }
 
     -- among the wirings that begin with no pin are all
-    pub found : (r : Option Wiring) → Within same search begun r → Found same card part search.strikes.now.struck r
+    pub found : (r : Option Wiring) → Within same search begun r → Found same search.card.now search.part.now search.strikes.now.struck r
     found (Some x) h = (
       h.inputs,
       record {

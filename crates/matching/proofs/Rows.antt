@@ -1,7 +1,7 @@
 -- The turns of the loop that decides the rows of one input.
-use Rattle.std.proofs.Common.{◌≡◌, ℕ, ◌+◌, ◌<◌, Bool, true, List, length, get_or, set, sym, ap, ◌∙◌, ⊎_elim, arith}
+use Rattle.std.proofs.Common.{◌≡◌, ℕ, ◌+◌, ◌<◌, Bool, true, List, length, get_or, set, ap, ◌∙◌, arith}
 use Rattle.std.proofs.lemmas.List.{get_or-set_same, get_or-set_other}
-use Rattle.std.proofs.lemmas.Bool.{cases_lt}
+use borrow.Author.Count.{below_more}
 use Rattle.matching.specs.Begun.{Settled, Kept}
 
 module _ {R : Type 0} (same : R → R → Bool) (card part : List R) (h further : ℕ) (before : List ℕ) where
@@ -13,16 +13,9 @@ module _ {R : Type 0} (same : R → R → Bool) (card part : List R) (h further 
       → Settled same card part h (r + 1) further before (set carried (h + r) (get_or carried r 0 + further))
   settled_more carried r kept s lt lm here =
       let v = get_or carried r 0 + further in
-      let now = set carried (h + r) v in
       record {
-        carries = λ i li. ⊎_elim
-            (λ l. get_or-set_other carried (h + r) (h + i) v 0 (λ e. omega arith) ∙ s.carries i l)
-            (λ ge.
-            let e : i ≡ r = omega arith in
-            ap (λ z. get_or now (h + z) 0) e ∙ get_or-set_same carried (h + r) v 0 lm ∙ ap (λ z. z + further) (kept r lt) ∙ ap (λ z. get_or before z 0 + further) (sym e))
-            (cases_lt i r);
-        alike = λ i d li. ⊎_elim
-            (λ l. s.alike i d l)
-            (λ ge. let e : i ≡ r = omega arith in ap (λ z. same (get_or card (h + z) d) (get_or part (get_or before z 0 + further) d)) e ∙ here d)
-            (cases_lt i r);
+        carries = below_more (λ i. get_or (set carried (h + r) v) (h + i) 0 ≡ get_or before i 0 + further) r
+            (λ i l. get_or-set_other carried (h + r) (h + i) v 0 (λ e. omega arith) ∙ s.carries i l)
+            (get_or-set_same carried (h + r) v 0 lm ∙ ap (λ z. z + further) (kept r lt));
+        alike = λ i d. below_more (λ i. same (get_or card (h + i) d) (get_or part (get_or before i 0 + further) d) ≡ true) r (λ i l. s.alike i d l) (here d) i;
       }

@@ -5,7 +5,8 @@ use crate::strikes::Strikes;
 use rows::RowKind;
 use tables::{PartialWiring, Table, Wiring, total_weight};
 
-// A search for a wiring of a card to a part, and the part rows that the pins chosen so far carry card rows to.
+// A search for a wiring of a card to a part. Once the first k inputs have their pins, `carried` holds the part row that
+// each of the card rows 0 to 2^k - 1 is carried to.
 #[derive(Drop)]
 struct Search<'a, R> {
     card: &'a Table<'a, R>,

@@ -27,9 +27,9 @@ returns-then-card-part g c =
           way.if-card-part.true (same_inputs card.inputs part.inputs (sym usable.agree.part_rows ∙ part.whole))
       | then-card-part-via-else-card-part+then-total_weight way ↦ λ w usable.
           let a = usable.agree in
-          way.if-total_weight.true
-          (way.total_weight.ensures ∙ total_there same weight g.met.R.RowKind.alike card.inputs card.rows.now part.rows.now w a
-          ∙ ap (λ k. weighed weight part.rows.now k) (sym a.part_rows ∙ part.whole) ∙ sym way.total_weight-else-card-part.ensures)
+          let there = total_there same weight g.met.R.RowKind.alike card.inputs card.rows.now part.rows.now w a in
+          let whole = ap (λ k. weighed weight part.rows.now k) (sym a.part_rows ∙ part.whole) in
+          way.if-total_weight.true (cc)
       | then-card-part-via-else-card-part+else-total_weight+then-not-is_same way ↦
           differs_first same card part c.args.strikes.now.struck
           (first_rows same card part way.index-card-0.result way.index-part-0.result false way.index-card-0.is way.index-part-0.is way.if-not-is_same.ensures)
@@ -43,4 +43,4 @@ extend-requires g c =
     (first_rows same c.args.card.now c.args.part.now c.index-card-0.result c.index-part-0.result true c.index-card-0.is c.index-part-0.is c.if-not-is_same.ensures)
 
 pub returns : goal.returns
-returns g c = found g.R.RowKind.same _ c.in-Ok.begun c.in-Ok.ensures.1.1 _ c.extend.ensures.answer
+returns g c = found g.R.RowKind.same _ c.in-Ok.begun c.in-Ok.ensures.1.1 c.extend.result c.extend.ensures.answer

@@ -1,4 +1,4 @@
-use Rattle.std.proofs.Common.{◌≡◌, ◌^◌, None, Some, arith, pow_mono}
+use Rattle.std.proofs.Common.{◌≡◌, None, Some, arith, pow_mono}
 use borrow.Author.Count.{below_more}
 use Rattle.matching.specs.Begun.{Barred}
 use Rattle.matching.proofs.Choosing.{grown, same_on, barred_on, within_on, whole, none_on, first_on, none_left}
@@ -8,7 +8,7 @@ use Rattle.matching.proofs.search.Search.+extend.Goals.{in_default-2-via-in-None
 pub returns-in-Some-clause-answer : goal.returns-in-Some-clause-answer
 returns-in-Some-clause-answer g t c =
     let done = c.in-Some.ensures in
-    whole g.R.RowKind.same c.args.self.now c.args.begun.now c.requires c.in-Some.wiring done.0 done.1 done.2
+    whole c.requires c.in-Some.wiring done.0 done.1 done.2
 
 pub loop-pin-preserved : goal.loop-pin-preserved
 loop-pin-preserved g t c =
@@ -17,22 +17,22 @@ loop-pin-preserved g t c =
     let begun = c.args.begun.now in
     let pin = c.loop-pin.pin in
     let was = c.loop-pin.invariant in
-    let placed = same_on same _ self c.loop-pin.self was.same _ c.place.new.self (omega arith) c.place.ensures.same in
+    let placed = same_on was.same c.place.ensures.same (omega arith) in
     elim c.in_default-2.branch [
       | in_default-2-via-in-None-1 way ↦
           let none : c.place.result ≡ None = cc in
           rw way.self-is record {
             same = placed;
-            past = below_more (Barred same self begun) pin was.past (barred_on same _ self c.loop-pin.self was.same begun pin (rw none at c.place.ensures.answer));
+            past = below_more (Barred same self begun) pin was.past (barred_on was.same same begun pin (rw none at c.place.ensures.answer));
           }
       | in_default-2-via-in-Some-place+in-None-1 way ↦
           let none : way.extend.result ≡ None = cc in
           let longer = way.in-Some-place.longer in
           let more = grown begun pin longer way.in-Some-place.ensures.answer.0 in
           rw way.self-is record {
-            same = same_on same _ self c.place.new.self placed (2 ^ longer.len) way.extend.new.self (pow_mono (omega (arith, more.len))) way.extend.ensures.same;
+            same = same_on placed way.extend.ensures.same (pow_mono (omega (arith, more.len)));
             past = below_more (Barred same self begun) pin was.past
-                (none_on same self begun pin longer more (within_on same _ self c.place.new.self placed longer None (rw none at way.extend.ensures.answer)));
+                (none_on more same self (within_on placed same longer None (rw none at way.extend.ensures.answer)));
           }
     ]
 
@@ -43,13 +43,13 @@ returns-in-loop-pin g t c =
     let begun = c.args.begun.now in
     let pin = c.loop-pin.pin in
     let was = c.loop-pin.invariant in
-    let placed = same_on same _ self c.loop-pin.self was.same _ c.place.new.self (omega arith) c.place.ensures.same in
+    let placed = same_on was.same c.place.ensures.same (omega arith) in
     let longer = c.in-Some-place.longer in
     let more = grown begun pin longer c.in-Some-place.ensures.answer.0 in
     record {
-      answer = first_on same self begun pin longer more c.in-Some-extend.wiring (omega (arith, c.in_default.ensures, c.requires.card_inputs)) was.past
-          (within_on same _ self c.place.new.self placed longer (Some c.in-Some-extend.wiring) c.in-Some-extend.ensures.answer);
-      same = same_on same _ self c.place.new.self placed (2 ^ longer.len) c.extend.new.self (pow_mono (omega (arith, more.len))) c.extend.ensures.same;
+      answer = first_on more c.in-Some-extend.wiring (omega (arith, c.in_default.ensures, c.requires.card_inputs)) was.past
+          (within_on placed same longer (Some c.in-Some-extend.wiring) c.in-Some-extend.ensures.answer);
+      same = same_on placed c.extend.ensures.same (pow_mono (omega (arith, more.len)));
     }
 
 pub returns-clause-answer : goal.returns-clause-answer
