@@ -39,7 +39,7 @@ grown begun p longer e = record { inputs = e.0; len = e.1; before = e.2; next = 
 
 module _ {R : Type 0} (same : R → R → Bool) where
   -- what is decided of a row that a wiring carries so decides of the wiring
-  pub differs_none : (card part : Table R) (strikes : List (List Bool)) (r q : ℕ) (v : ℕ → ℕ) → r < 2 ^ card.inputs → carry card.inputs v r ≡ q
+  differs_none : (card part : Table R) (strikes : List (List Bool)) (r q : ℕ) (v : ℕ → ℕ) → r < 2 ^ card.inputs → carry card.inputs v r ≡ q
       → ((d : R) → same (get_or card.rows.now r d) (get_or part.rows.now q d) ≡ false) → Usable same card part strikes v → ⊥
   differs_none card part strikes r q v lt e off usable =
       let d = a_row card in
@@ -52,6 +52,7 @@ module _ {R : Type 0} (same : R → R → Bool) where
       let pos = pow_pos card.inputs in
       differs_none card part strikes 0 0 v pos (carry_up 0 card.inputs v 0 (omega arith) (omega arith)) off
 
+-- what is said of a search later holds of it now, since its tables and strikes stay
 module _ {R : Type 0} {m : ℕ} {before after : Search R} (on : SameSearch m before after) where
   pub same_on : {k : ℕ} {last : Search R} → SameSearch k after last → m ≤ k → SameSearch m before last
   same_on more le = record {
@@ -67,16 +68,6 @@ module _ {R : Type 0} {m : ℕ} {before after : Search R} (on : SameSearch m bef
 
     usable_back : (v : ℕ → ℕ) → Usable same after.card.now after.part.now after.strikes.now.struck v → Usable same before.card.now before.part.now before.strikes.now.struck v
     usable_back v usable = rw (← on.card, ← on.part, ← on.strikes) usable
-
-    begun_on : (begun : PartialWiring) → m ≡ 2 ^ begun.len → Begun same before begun → Begun same after begun
-    begun_on begun e h = record {
-      card_inputs = h.card_inputs ∙ ap (λ t. t.inputs) (sym on.card);
-      spared = rw on.strikes h.spared;
-      carries = λ r lt. on.kept r (omega arith) ∙ h.carries r lt;
-      alike = λ r d lt.
-          ap (λ t. same (get_or t.rows.now r d) (get_or after.part.now.rows.now (carry begun.len (pin begun.pins) r) d)) on.card
-          ∙ ap (λ t. same (get_or before.card.now.rows.now r d) (get_or t.rows.now (carry begun.len (pin begun.pins) r) d)) on.part ∙ h.alike r d lt;
-    }
 
     pub barred_on : (begun : PartialWiring) (p : ℕ) → Barred same after begun p → Barred same before begun p
     barred_on begun p barred v usable = barred v (usable_on v usable)
@@ -125,28 +116,30 @@ module _ {R : Type 0} {same : R → R → Bool} {search : Search R} {begun : Par
     pub in_part : (r : ℕ) → r < 2 ^ k → get_or carried r 0 + 2 ^ p < length part.rows.now
     in_part r lt = let c = carry_lt begun.inputs (suc k) u (2 ^ k + r) placed in omega (arith, carry_next r lt, part_whole)
 
-    pub begun_more : (after : Search R) → SameSearch (2 ^ k) search after → struck search.strikes.now.struck k p ≡ false
+    begun_more : (after : Search R) → SameSearch (2 ^ k) search after → struck search.strikes.now.struck k p ≡ false
         → Settled same card.rows.now part.rows.now (2 ^ k) (2 ^ k) (2 ^ p) carried after.carried → Begun same after longer
     begun_more after on free s =
         let up : (r : ℕ) → carry longer.len u r ≡ carry (suc k) u r = λ r. ap (λ m. carry m u r) (g.len ∙ add-one k) in
         let low : (r : ℕ) → r < 2 ^ k → carry k w r ≡ carry longer.len u r = λ r lt. sym (carry_ext k u w r g.before) ∙ sym (carry_low k u r lt) ∙ sym (up r) in
         let high : (r : ℕ) → r < 2 ^ k → get_or carried r 0 + 2 ^ p ≡ carry longer.len u (2 ^ k + r) = λ r lt. carry_next r lt ∙ sym (up (2 ^ k + r)) in
         let two : 2 ^ longer.len ≡ 2 ^ k + 2 ^ k = ap (λ m. 2 ^ m) (g.len ∙ add-one k) ∙ two-pow-succ k in
-        let moved : Search R = record { card = search.card; part = search.part; strikes = search.strikes; carried = after.carried; same_inputs = search.same_inputs } in
-        begun_on {before = moved} record { card = on.card; part = on.part; strikes = on.strikes; kept = λ r lt. refl } same longer refl record {
-          card_inputs = g.inputs ∙ h.card_inputs;
-          spared = λ i li. below_more (λ i. struck search.strikes.now.struck i (u i) ≡ false) k
-              (λ i l. ap (λ y. struck search.strikes.now.struck i y) (g.before i l) ∙ h.spared i l) (ap (λ y. struck search.strikes.now.struck k y) g.next ∙ free) i (omega (arith, g.len));
+        record {
+          card_inputs = g.inputs ∙ h.card_inputs ∙ ap (λ t. t.inputs) (sym on.card);
+          spared = rw on.strikes (λ i li. below_more (λ i. struck search.strikes.now.struck i (u i) ≡ false) k
+              (λ i l. ap (λ y. struck search.strikes.now.struck i y) (g.before i l) ∙ h.spared i l) (ap (λ y. struck search.strikes.now.struck k y) g.next ∙ free) i (omega (arith, g.len)));
           carries = halves (λ r. get_or after.carried r 0 ≡ carry longer.len u r) (2 ^ k) (2 ^ longer.len) two
               (λ r l. on.kept r l ∙ h.carries r l ∙ low r l)
               (λ r l. s.carries r l ∙ high r l);
-          alike = λ r d. halves (λ r. same (get_or card.rows.now r d) (get_or part.rows.now (carry longer.len u r) d) ≡ true) (2 ^ k) (2 ^ longer.len) two
+          alike = λ r d lt.
+              ap (λ t. same (get_or t.rows.now r d) (get_or after.part.now.rows.now (carry longer.len u r) d)) on.card
+              ∙ ap (λ t. same (get_or card.rows.now r d) (get_or t.rows.now (carry longer.len u r) d)) on.part
+              ∙ halves (λ r. same (get_or card.rows.now r d) (get_or part.rows.now (carry longer.len u r) d) ≡ true) (2 ^ k) (2 ^ longer.len) two
               (λ r l. ap (λ y. same (get_or card.rows.now r d) (get_or part.rows.now y d)) (sym (low r l)) ∙ h.alike r d l)
-              (λ r l. ap (λ y. same (get_or card.rows.now (2 ^ k + r) d) (get_or part.rows.now y d)) (sym (high r l)) ∙ s.alike r d l) r;
+              (λ r l. ap (λ y. same (get_or card.rows.now (2 ^ k + r) d) (get_or part.rows.now y d)) (sym (high r l)) ∙ s.alike r d l) r lt;
         }
 
   -- a row that is not the same shuts out every usable wiring that goes on so
-  pub differs_barred : (p : ℕ) → k < begun.inputs → Differs same card.rows.now part.rows.now (2 ^ k) (2 ^ p) carried → Barred same search begun p
+  differs_barred : (p : ℕ) → k < begun.inputs → Differs same card.rows.now part.rows.now (2 ^ k) (2 ^ p) carried → Barred same search begun p
   differs_barred p lk f v usable a new =
       let n = card.inputs in
       let r = f.0 in
