@@ -27,7 +27,7 @@ returns-then-card-part g c =
           way.if-card-part.true (same_inputs card.inputs part.inputs (sym usable.agree.part_rows ∙ part.whole))
       | then-card-part-via-else-card-part+then-total_weight way ↦ λ w usable.
           let a = usable.agree in
-          let there = total_there same weight g.met.R.RowKind.alike card.inputs card.rows.now part.rows.now w a in
+          let there = total_there same weight g.met.R.RowKind.laws.alike card.inputs card.rows.now part.rows.now w a in
           let whole = ap (λ k. weighed weight part.rows.now k) (sym a.part_rows ∙ part.whole) in
           way.if-total_weight.true (cc)
       | then-card-part-via-else-card-part+else-total_weight+then-not-is_same way ↦
