@@ -4,7 +4,7 @@ ghost use Rattle.tables.specs.Wirings.{pin};
 ghost use Rattle.tables.specs.Agreement.{Agree};
 ghost use Rattle.bench_fit.specs.Parts.{IsPart};
 
-use crate::random::Random;
+use draws::Random;
 use refusals::Refusal;
 use rows::OnOff;
 use tables::Wiring;
@@ -48,23 +48,16 @@ fn unlike(rows: &Rows, row: usize) -> Option<usize>
     requires { row < 1024 }
     ensures { IfSome result (λ other. other < 1024) }
 {
-    for r in row..1024 {
-        if r.count_ones() == row.count_ones() && rows[r] != rows[row] {
-            return Some(r);
-        }
-    }
-    None
+    (row..1024).find(|&r| r.count_ones() == row.count_ones() && rows[r] != rows[row])
 }
 
 // The table with two rows exchanged, over so many turns.
-fn exchanged(rows: &Rows, a: usize, b: usize, turns: usize) -> Rows
+fn exchanged(rows: &Rows, mut a: usize, mut b: usize, turns: usize) -> Rows
     requires a_in { a < 1024 }
     requires b_in { b < 1024 }
     ensures { IsPermutation rows.now result }
 {
     let mut other = *rows;
-    let mut a = a;
-    let mut b = b;
     for _ in 0..turns {
         other.swap(a, b);
         a = turned(a);
@@ -85,27 +78,30 @@ impl Model {
     pub fn plain(random: &mut Random) -> Model
         ensures { result.turns ≡ 1 }
     {
-        let mut card = [OnOff::Off; 1024];
-        for r in 0..1024 {
-            card[r] = random.row();
-        }
-        Model { card, turns: 1 }
+        Model::drawn(random, 1)
     }
 
     // A row is drawn with all its turns, so that all inputs have one list and the search is left to the rows.
     pub fn ring(random: &mut Random) -> Model
         ensures { result.turns ≡ 10 }
     {
+        Model::drawn(random, 10)
+    }
+
+    // Each row is drawn with so many of its turns, itself the first.
+    fn drawn(random: &mut Random, turns: usize) -> Model
+        ensures { result.turns ≡ turns }
+    {
         let mut card = [OnOff::Off; 1024];
         for r in 0..1024 {
             let row = random.row();
             let mut turn = r;
-            for _ in 0..10 {
+            for _ in 0..turns {
                 card[turn] = row;
                 turn = turned(turn);
             }
         }
-        Model { card, turns: 10 }
+        Model { card, turns }
     }
 
     // The card with two rows of unequal value exchanged, as many inputs on in one as in the other. It weighs the same,
@@ -113,12 +109,12 @@ impl Model {
     pub fn near_miss(&self, random: &mut Random) -> Rows
         ensures { IsPermutation self.now.card result }
     {
-        for row in random.below(512)..1024 {
-            if let Some(other) = unlike(&self.card, row) {
-                return exchanged(&self.card, row, other, self.turns);
-            }
+        let start = random.below(512);
+        let rows = (start..1024).find_map(|a| unlike(&self.card, a).map(|b| (a, b)));
+        match rows {
+            Some((a, b)) => exchanged(&self.card, a, b, self.turns),
+            None => self.card,
         }
-        self.card
     }
 
     // A part that weighs what the card weighs. In the last quarter of the numbers it agrees with the card, before that

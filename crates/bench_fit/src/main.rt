@@ -1,11 +1,10 @@
 #![tactic(auto)]
 
 mod drawing;
-mod random;
 
 use drawing::{Model, Rows};
+use draws::Random;
 use inventory::{Proposal, Shelf};
-use random::Random;
 use refusals::Refusal;
 use rows::OnOff;
 use signatures::{Breakup, Cofactor, Pile, Refined};
@@ -21,7 +20,7 @@ fn stock(
     ring: &Model,
 ) -> Result<(), Refusal> {
     let parts = shelf.slots() as u32;
-    for number in (1..parts + 1).rev() {
+    for number in (1..=parts).rev() {
         let model = if number % 2 == 1 { plain } else { ring };
         let rows = model.part(random, number, parts)?;
         shelf.enter(memory, number, 10, &rows)?;
@@ -31,11 +30,10 @@ fn stock(
 
 // The sum so far with all that a proposal says.
 fn summed(sum: u64, proposal: &Proposal) -> u64 {
-    let mut sum = sum.wrapping_add(proposal.number() as u64);
-    for pin in proposal.wiring().pins() {
-        sum = sum.wrapping_mul(31).wrapping_add(*pin as u64);
-    }
-    sum.wrapping_mul(31).wrapping_add(proposal.struck() as u64)
+    let sum = sum.wrapping_add(proposal.number() as u64);
+    let pins = proposal.wiring().pins().iter().map(|&pin| pin as u64);
+    pins.chain([proposal.struck() as u64])
+        .fold(sum, |sum, said| sum.wrapping_mul(31).wrapping_add(said))
 }
 
 // Fits each card in turn, so often in all. How many fits found no part, and the sum of what was proposed.
@@ -43,20 +41,16 @@ fn fit_all(
     shelf: &Shelf,
     memory: &[OnOff],
     cards: &[Rows; 4],
-    fits: u32,
-) -> Result<(u32, u64), Refusal> {
+    fits: usize,
+) -> Result<(usize, u64), Refusal> {
     let pile = Pile(Cofactor, Pile(Breakup, Refined(Cofactor)));
     let mut without = 0;
     let mut sum = 0;
-    for t in 0..fits {
-        match shelf.fit(memory, 10, &cards[t as usize % 4], &pile) {
+    for card in cards.iter().cycle().take(fits) {
+        match shelf.fit(memory, 10, card, &pile) {
             Ok(proposal) => sum = summed(sum, &proposal),
-            Err(refusal) => {
-                if refusal != Refusal::NoPartAgrees {
-                    return Err(refusal);
-                }
-                without += 1;
-            }
+            Err(Refusal::NoPartAgrees) => without += 1,
+            Err(refusal) => return Err(refusal),
         }
     }
     Ok((without, sum))
@@ -64,14 +58,8 @@ fn fit_all(
 
 fn main(rt: HostRuntime) -> anyhow::Result<()> {
     let mut args = env::args(&rt)?.skip(1);
-    let parts = match args.next() {
-        Some(text) => text.parse::<usize>()?,
-        None => 16,
-    };
-    let fits = match args.next() {
-        Some(text) => text.parse::<u32>()?,
-        None => 4,
-    };
+    let parts = args.next().map_or(Ok(16), |text| text.parse())?;
+    let fits = args.next().map_or(Ok(4), |text| text.parse())?;
     let mut random = Random(1);
     let plain = Model::plain(&mut random);
     let ring = Model::ring(&mut random);

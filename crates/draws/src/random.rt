@@ -1,8 +1,9 @@
 ghost use Rattle.std.specs.Prelude.{◌≡◌, ◌<◌, IsOkAnd};
-ghost use Rattle.bench_fit.specs.Draws.{next, drawn, drawn_row};
+ghost use Rattle.draws.specs.Draws.{next, drawn, drawn_row};
 
 use refusals::Refusal;
 use rows::OnOff;
+use std::array;
 use tables::Wiring;
 
 // A linear congruential generator, so that each run draws the same.
@@ -35,10 +36,9 @@ impl Random {
     pub fn wiring(&mut self) -> Result<Wiring, Refusal>
         ensures { IsOkAnd result (λ wiring. wiring.inputs ≡ 10) }
     {
-        let mut pins = [0, 1, 2, 3, 4, 5, 6, 7, 8, 9];
+        let mut pins: [u8; 10] = array::from_fn(|i| i as u8);
         for i in 0..10 {
-            let k = i + self.below(10 - i);
-            pins.swap(i, k);
+            pins.swap(i, i + self.below(10 - i));
         }
         Wiring::new(10, &pins)
     }

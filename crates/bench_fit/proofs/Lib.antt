@@ -1,2 +1,0 @@
-pub mod Carrying
-pub mod Shuffling

@@ -1,0 +1,17 @@
+use Rattle.std.proofs.Common.{ℕ, ◌<◌, List, ◌∙◌, arith}
+use Rattle.std.specs.List.{SwappedAt}
+use Rattle.tables.specs.Wirings.{pin, Wires}
+use Rattle.draws.proofs.random.Random.wiring.Goals as goal
+
+-- exchanging two pins of a wiring leaves a wiring
+wires_swapped : (n : ℕ) (from to : List ℕ) (i j : ℕ) → i < n → j < n → SwappedAt from to i j → Wires n (pin from) → Wires n (pin to)
+wires_swapped n from to i j li lj x h = (
+  (λ k lk. grind (arith, x.0 0, x.1 0, x.2 k 0, h.0 i li, h.0 j lj, h.0 k lk)),
+  (λ a b t. grind (arith, x.0 0, x.1 0, x.2 a 0, x.2 b 0, h.1 a b, h.1 a i, h.1 a j, h.1 i b, h.1 j b, h.1 i j)),
+)
+
+pub loop-i-preserved : goal.loop-i-preserved
+loop-i-preserved c = (
+  c.swap.ensures.len ∙ c.loop-i.invariant.0,
+  wires_swapped 10 c.loop-i.pins c.swap.new.self c.loop-i.i _ c.loop-i-test.true (omega arith) c.swap.ensures.by_index c.loop-i.invariant.1,
+)

@@ -1,0 +1,5 @@
+#![tactic(auto)]
+
+mod random;
+
+pub use random::Random;
