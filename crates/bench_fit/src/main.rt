@@ -1,5 +1,8 @@
 #![tactic(auto)]
 
+ghost use Rattle.std.specs.Prelude.{◌≡◌, true, OnOk};
+ghost use Rattle.inventory.specs.Slots.{full};
+
 mod drawing;
 
 use drawing::{Model, Rows};
@@ -18,7 +21,9 @@ fn stock(
     random: &mut Random,
     plain: &Model,
     ring: &Model,
-) -> Result<(), Refusal> {
+) -> Result<(), Refusal>
+    ensures { OnOk result (full shelf.new.count shelf.new.slots ≡ true) }
+{
     let parts = shelf.slots() as u32;
     for number in (1..=parts).rev() {
         let model = if number % 2 == 1 { plain } else { ring };

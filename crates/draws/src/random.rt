@@ -1,4 +1,5 @@
 ghost use Rattle.std.specs.Prelude.{◌≡◌, ◌<◌, IsOkAnd};
+ghost use Rattle.std.specs.Fn.{iterate};
 ghost use Rattle.draws.specs.Draws.{next, drawn, drawn_row};
 
 use refusals::Refusal;
@@ -32,9 +33,10 @@ impl Random {
         }
     }
 
-    // A wiring for ten inputs.
+    // A wiring for ten inputs, by ten draws.
     pub fn wiring(&mut self) -> Result<Wiring, Refusal>
-        ensures { IsOkAnd result (λ wiring. wiring.inputs ≡ 10) }
+        ensures made { IsOkAnd result (λ wiring. wiring.inputs ≡ 10) }
+        ensures state { self.new.0 ≡ iterate next 10 self.old.0 }
     {
         let mut pins: [u8; 10] = array::from_fn(|i| i as u8);
         for i in 0..10 {
