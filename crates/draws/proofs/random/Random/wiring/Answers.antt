@@ -19,8 +19,8 @@ one_less f n i x y li e =
     ap (iterate f (n - (i + 1))) e ∙ ap (λ k. iterate f k x) left
 
 pub loop-i-preserved : goal.loop-i-preserved
-loop-i-preserved c = (
-  c.swap.ensures.len ∙ c.loop-i.invariant.0,
-  wires_swapped 10 c.loop-i.pins c.swap.new.self c.loop-i.i _ c.loop-i-test.true (omega arith) c.swap.ensures.by_index c.loop-i.invariant.1,
-  one_less next 10 c.loop-i.i _ _ c.loop-i-test.true c.below.ensures.state ∙ c.loop-i.invariant.2,
-)
+loop-i-preserved c = record {
+  whole = c.swap.ensures.len ∙ c.loop-i.invariant.whole;
+  wires = wires_swapped 10 c.loop-i.pins c.swap.new.self c.loop-i.i _ c.loop-i-test.true (omega arith) c.swap.ensures.by_index c.loop-i.invariant.wires;
+  state = one_less next 10 c.loop-i.i _ _ c.loop-i-test.true c.below.ensures.state ∙ c.loop-i.invariant.state;
+}

@@ -4,6 +4,10 @@ use Rattle.tables.specs.Wirings.{pin, Wires}
 use Rattle.draws.specs.Draws.{next}
 use Rattle.draws.proofs.random.Random.wiring.Given as goal
 
--- the draws that are left end in the state after all ten
 abbrev pub invariant-loop-i : goal.invariant-loop-i
-invariant-loop-i l = (length l.pins ≡ 10) × Wires 10 (pin l.pins) × (iterate next (10 - l.i) l.self.0 ≡ iterate next 10 l.fn.self.0)
+invariant-loop-i l = record {
+  whole : length l.pins ≡ 10;
+  wires : Wires 10 (pin l.pins);
+  -- the draws that are left end in the state after all ten
+  state : iterate next (10 - l.i) l.self.0 ≡ iterate next 10 l.fn.self.0;
+}
