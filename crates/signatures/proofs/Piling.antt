@@ -4,7 +4,7 @@ use native.Mathlib.Nat.{le-min, min-le_left, min-le_right}
 use Rattle.std.proofs.lemmas.List.{get_or_past}
 use Rattle.std.proofs.lemmas.Bool.{cases_lt, cond_both, lt-ltb, le-ltb}
 use Rattle.signatures.specs.Law.{given, Lawful}
-use Rattle.signatures.specs.Values.{piled, piled_count}
+use Rattle.signatures.specs.Values.{Joined, piled, piled_count}
 use Rattle.signatures.proofs.Asking.{given_yes, given_no_input, given_no_place}
 
 lt_min : (p a b : ℕ) → p < a → p < b → p < min a b
@@ -18,8 +18,7 @@ module _ {R : Type 0} (a b : ℕ) (first second : ℕ → List R → ℕ → ℕ
       (λ high. ap (λ t. cond t (first n card i p) (second n card i (p - a))) (le-ltb p a high) ∙ two n card part w agree i (p - a) li (let m = min-le_left (a + b) 64 in omega arith) ∙ ap (λ t. cond t (first n part (w i) p) (second n part (w i) (p - a))) (sym (le-ltb p a high)))
       (cases_lt p a)
 
-  module _ (n : ℕ) (rows : List R) (i : ℕ) (list one two : List ℕ) (whole : length list ≡ 64) (few : a ≤ 64)
-      (is : (p : ℕ) → p < 64 → get_or list p 0 ≡ cond (ltb p a) (get_or one p 0) (get_or two (p - a) 0))
+  module _ (n : ℕ) (rows : List R) (i : ℕ) (list one two : List ℕ) (whole : length list ≡ 64) (few : a ≤ 64) (is : Joined a one two list)
       (h : (p : ℕ) → get_or one p 0 ≡ given a first n rows i p) (k : (p : ℕ) → get_or two p 0 ≡ given b second n rows i p) where
     pub piled_list : (p : ℕ) → get_or list p 0 ≡ given (piled_count a b) (piled a first second) n rows i p
     piled_list p =

@@ -9,6 +9,7 @@ mod neighbour;
 mod pile;
 mod refined;
 mod signature;
+mod standard;
 
 pub use blank::Blank;
 pub use breakup::Breakup;
@@ -19,3 +20,4 @@ pub use neighbour::Neighbour;
 pub use pile::Pile;
 pub use refined::Refined;
 pub use signature::Signature;
+pub use standard::{STANDARD_PILE, StandardPile};

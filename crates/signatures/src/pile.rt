@@ -1,5 +1,5 @@
-ghost use Rattle.std.specs.Prelude.{◌≡◌, ℕ, ◌-◌, ◌<◌, ◌≤◌, if◌then◌else◌, nat_lt, slice_index};
-ghost use Rattle.signatures.specs.Values.{piled, piled_count};
+ghost use Rattle.std.specs.Prelude.{◌<◌, ◌≤◌, [], slice_index_or};
+ghost use Rattle.signatures.specs.Values.{Joined, piled, piled_count};
 
 use crate::signature::Signature;
 use lists::Lists;
@@ -7,14 +7,12 @@ use rows::RowKind;
 use tables::Table;
 
 // The first places of one list, and then another list as far as there is room.
-fn joined(first: [u32; 64], places: usize, second: [u32; 64]) -> [u32; 64]
+fn joined(first: &[u32; 64], places: usize, second: &[u32; 64]) -> [u32; 64]
     requires { places ≤ 64 }
-    ensures { (p : ℕ) → p < 64 → slice_index result p ≡ (if nat_lt p places then slice_index first p else slice_index second (p - places)) }
+    ensures { Joined places first.now second.now result }
 {
-    let mut list = first;
-    for p in places..64 {
-        list[p] = second[p - places];
-    }
+    let mut list = *first;
+    list[places..].copy_from_slice(&second[..64 - places]);
     list
 }
 
@@ -34,23 +32,23 @@ impl<R: RowKind, A: Signature<R>, B: Signature<R>> Signature<R> for Pile<A, B> {
 
     fn list(&self, table: &Table<R>, input: usize) -> [u32; 64] {
         joined(
-            self.0.list(table, input),
+            &self.0.list(table, input),
             self.0.places(),
-            self.1.list(table, input),
+            &self.1.list(table, input),
         )
     }
 
     fn lists(&self, table: &Table<R>) -> Lists {
         let first = self.0.lists(table);
         let second = self.1.lists(table);
-        let mut answers = [[0; 64]; 10];
-        for input in 0..table.inputs {
-            answers[input] = joined(first.answers[input], first.places, second.answers[input]);
-        }
-        Lists {
-            inputs: table.inputs,
-            places: self.places(),
-            answers,
-        }
+        Lists::from_fn(
+            table.inputs,
+            self.places(),
+            |input| -> [u32; 64]
+                requires inside { input < 10 }
+                requires short { first.places ≤ 64 }
+                ensures { Joined first.places (slice_index_or first.answers input []) (slice_index_or second.answers input []) result }
+            { joined(&first.answers[input], first.places, &second.answers[input]) },
+        )
     }
 }

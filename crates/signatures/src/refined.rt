@@ -1,5 +1,6 @@
-ghost use Rattle.std.specs.Prelude.{◌≡◌, ℕ, ◌<◌, ◌≤◌, ◌&&◌, [], if◌then◌else◌, ◌≢◌, nat_lt, slice_index, slice_index_or};
-ghost use Rattle.signatures.specs.Values.{paired, refined, refined_sum};
+ghost use Rattle.std.specs.Prelude.{◌≡◌, ℕ, ◌<◌, ◌≤◌, [], ◌≢◌, slice_index, slice_index_or};
+ghost use Rattle.signatures.specs.Law.{given};
+ghost use Rattle.signatures.specs.Values.{paired, refined, refined_from, refined_sum};
 
 use crate::signature::Signature;
 use lists::Lists;
@@ -51,7 +52,7 @@ fn refine(below: &Lists, pairs: &[u32; 10], input: usize, place: usize) -> u32
 
 fn refined_list<R: RowKind>(table: &Table<R>, below: &Lists, input: usize) -> [u32; 64]
     requires { below.now.inputs ≡ table.now.inputs }
-    ensures { (p : ℕ) → slice_index result p ≡ (if nat_lt input table.now.inputs && nat_lt p below.now.places then refined_sum table.now.inputs input (paired R.RowKind.weight table.now.inputs table.now.rows.now input) (λ k. slice_index (slice_index_or below.now.answers k []) p) else 0) }
+    ensures { (p : ℕ) → slice_index result p ≡ given below.now.places (refined_from R.RowKind.weight below.now) table.now.inputs table.now.rows.now input p }
 {
     let mut list = [0; 64];
     if input >= table.inputs {
@@ -84,14 +85,13 @@ impl<R: RowKind, S: Signature<R>> Signature<R> for Refined<S> {
     // The lists below are asked for once.
     fn lists(&self, table: &Table<R>) -> Lists {
         let below = self.0.lists(table);
-        let mut answers = [[0; 64]; 10];
-        for input in 0..table.inputs {
-            answers[input] = refined_list(table, &below, input);
-        }
-        Lists {
-            inputs: table.inputs,
-            places: self.places(),
-            answers,
-        }
+        Lists::from_fn(
+            table.inputs,
+            self.places(),
+            |input| -> [u32; 64]
+                requires { below.inputs ≡ table.now.inputs }
+                ensures { (p : ℕ) → slice_index result p ≡ given below.places (refined_from R.RowKind.weight below) table.entry.now.inputs table.entry.now.rows.now input p }
+            { refined_list(table, &below, input) },
+        )
     }
 }

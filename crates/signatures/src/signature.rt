@@ -28,28 +28,25 @@ pub trait Signature<R: RowKind> {
         ensures gives { GivesLists (count self.now) (value self.now) table.now.inputs table.now.rows.now result }
         ensures lawful { Lawful (count self.now) (value self.now) R.RowKind.same }
     {
-        let mut answers = [[0; 64]; 10];
-        for input in 0..table.inputs {
-            answers[input] = self.list(table, input);
-        }
-        Lists {
-            inputs: table.inputs,
-            places: self.places(),
-            answers,
-        }
+        Lists::from_fn(
+            table.inputs,
+            self.places(),
+            |input| -> [u32; 64]
+                ensures { (p : ℕ) → slice_index result p ≡ given (count self.entry.now) (value self.entry.now) table.entry.now.inputs table.entry.now.rows.now input p }
+            { self.list(table, input) },
+        )
     }
 
     // One answer, and 0 where the rows are no table of so many inputs, or there is no such input or place.
     fn answer(&self, inputs: usize, rows: &[R], input: usize, place: usize) -> u32
         ensures { result ≡ asked (count self.now) (value self.now) inputs rows.now input place }
     {
-        let Ok(()) = Table::check(inputs, rows) else {
+        let Ok(table) = Table::new(inputs, rows) else {
             return 0;
         };
         if place >= self.places() {
             return 0;
         }
-        let table = Table { inputs, rows };
         self.list(&table, input)[place]
     }
 }

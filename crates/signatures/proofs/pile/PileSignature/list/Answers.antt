@@ -1,4 +1,5 @@
-use Rattle.std.proofs.Common.{◌≡◌, ◌-◌, cond, ltb, length, get_or, ap, ◌∙◌, arith}
+use Rattle.std.proofs.Common.{subst, ◌≡◌, length, arith}
+use Rattle.signatures.specs.Values.{Joined}
 use Rattle.signatures.proofs.Piling.{piled_list}
 use Rattle.signatures.proofs.pile.PileSignature.list.Goals as goal
 
@@ -10,5 +11,5 @@ returns g c =
     let places = c.places.ensures in
     piled_list (g.A.Signature.count x.0) (g.B.Signature.count x.1) (g.A.Signature.value x.0) (g.B.Signature.value x.1) table.inputs table.rows.now c.args.input
     c.joined.result c.list.result c.list-2.result whole (omega (arith, places.few, places.count))
-    (λ p room. c.joined.ensures p room ∙ ap (λ k. cond (ltb p k) (get_or c.list.result p 0) (get_or c.list-2.result (p - k) 0)) places.count)
+    (subst (λ k. Joined k c.list.result c.list-2.result c.joined.result) places.count c.joined.ensures)
     c.list.ensures c.list-2.ensures

@@ -1,28 +1,25 @@
-use Rattle.std.proofs.Common.{◌≡◌, ◌-◌, ◌<◌, ◌≤◌, cond, ltb, [], length, get_or, ap, ◌∙◌, arith, length-set}
-use Rattle.signatures.specs.Law.{given}
-use Rattle.signatures.specs.Values.{piled, piled_count}
+use Rattle.std.proofs.Common.{[], get_or, subst, arith, rules, tests}
+use Rattle.signatures.specs.Values.{Joined}
 use Rattle.signatures.proofs.Piling.{piled_list}
-use Rattle.signatures.proofs.Places.{list_more, widths_more}
 use Rattle.signatures.proofs.pile.PileSignature.lists.Goals as goal
 
-pub loop-input-preserved : goal.loop-input-preserved
-loop-input-preserved g c =
+pub returns-clause-gives : goal.returns-clause-gives
+returns-clause-gives g c =
     let x = c.args.self.now in
     let table = c.args.table.now in
-    let k = c.loop-input.input in
-    let few : table.inputs ≤ 10 = table.few in
-    let a = g.A.Signature.count x.0 in
-    let b = g.B.Signature.count x.1 in
-    let one = c.lists-first.result in
-    let two = c.lists-second.result in
-    let within : k < length c.loop-input.answers = omega (arith, c.loop-input-test.true, c.loop-input.invariant.0) in
-    let whole : length c.joined.result ≡ 64 = omega arith in
-    let inside : k < table.inputs = c.loop-input-test.true in
-    let here = piled_list a b (g.A.Signature.value x.0) (g.B.Signature.value x.1) table.inputs table.rows.now k
-    c.joined.result (get_or one.answers k []) (get_or two.answers k []) whole (omega (arith, one.short, c.lists-first.ensures.gives.places))
-    (λ p room. c.joined.ensures p room ∙ ap (λ m. cond (ltb p m) (get_or (get_or one.answers k []) p 0) (get_or (get_or two.answers k []) (p - m) 0)) c.lists-first.ensures.gives.places)
-    (λ p. c.lists-first.ensures.gives.answers k p inside) (λ p. c.lists-second.ensures.gives.answers k p inside) in (
-      simp length-set c.loop-input.invariant.0,
-      widths_more c.loop-input.answers k c.joined.result whole c.loop-input.invariant.1 within,
-      list_more c.loop-input.answers k c.joined.result (given (piled_count a b) (piled a (g.A.Signature.value x.0) (g.B.Signature.value x.1)) table.inputs table.rows.now) within c.loop-input.invariant.2 here,
-    )
+    let one = c.lists-first.ensures.gives in
+    let two = c.lists-second.ensures.gives in
+    let first = c.lists-first.result in
+    let second = c.lists-second.result in
+    record {
+      inputs = c.from_fn.ensures.inputs;
+      places = search (rules, tests);
+      answers = λ i p li.
+          let list = get_or c.from_fn.result.answers i [] in
+          let is : Joined first.places (get_or first.answers i []) (get_or second.answers i []) list = let h = c.from_fn.ensures.answers i li in search rules in
+          piled_list (g.A.Signature.count x.0) (g.B.Signature.count x.1) (g.A.Signature.value x.0) (g.B.Signature.value x.1) table.inputs table.rows.now i
+          list (get_or first.answers i []) (get_or second.answers i []) (c.from_fn.ensures.wide i li) (omega (arith, first.short, one.places))
+          (subst (λ k. Joined k (get_or first.answers i []) (get_or second.answers i []) list) one.places is)
+          (λ q. one.answers i q li) (λ q. two.answers i q li) p;
+      wide = c.from_fn.ensures.wide;
+    }
