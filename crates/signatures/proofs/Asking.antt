@@ -1,5 +1,5 @@
 -- Which questions have an answer, and which get 0.
-use Rattle.std.proofs.Common.{◌≡◌, ℕ, ◌^◌, ◌<◌, ◌≤◌, List, length, get_or, set, replicate, sym, ap, ◌∙◌, ⊎_elim, arith}
+use Rattle.std.proofs.Common.{◌≡◌, ℕ, ◌^◌, ◌<◌, ◌≤◌, cond, ltb, List, length, get_or, set, replicate, sym, ap, ◌∙◌, ⊎_elim, arith}
 use Rattle.std.proofs.lemmas.List.{get_or-set_other}
 use Rattle.std.proofs.lemmas.Bool.{cases_eq}
 use Rattle.std.proofs.lemmas.Bool.Decides.{nat_tests}
@@ -9,6 +9,9 @@ use Rattle.signatures.specs.Law.{given, asked}
 module _ {R : Type 0} (count : ℕ) (value : ℕ → List R → ℕ → ℕ → ℕ) (n : ℕ) (rows : List R) (i p : ℕ) where
   pub given_yes : i < n → p < count → given count value n rows i p ≡ value n rows i p
   given_yes li lp = grind (arith, nat_tests)
+
+  pub given_in : i < n → given count value n rows i p ≡ cond (ltb p count) (value n rows i p) 0
+  given_in li = grind (arith, nat_tests)
 
   pub given_no_input : n ≤ i → given count value n rows i p ≡ 0
   given_no_input le = grind (arith, nat_tests)

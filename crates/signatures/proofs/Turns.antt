@@ -1,5 +1,5 @@
 -- One row more in a sum over rows.
-use Rattle.std.proofs.Common.{◌≡◌, ℕ, zero, suc, ◌+◌, ◌*◌, ◌<◌, ◌≤◌, Bool, true, false, cond, eqb, List, [], ◌∷◌, length, get_or, set, sym, ap, ◌∙◌, ⊎_elim, mul-suc, add-one, arith, eq-eqb}
+use Rattle.std.proofs.Common.{◌≡◌, ℕ, zero, suc, ◌+◌, ◌*◌, ◌<◌, ◌≤◌, Bool, true, false, cond, ◌&&◌, eqb, List, [], ◌∷◌, length, get_or, set, sym, refl, ap, ◌∙◌, ⊎_elim, mul-suc, add-one, arith, eq-eqb}
 use Rattle.std.proofs.lemmas.List.{get_or-map, get_or-set_same, get_or-set_other}
 use Rattle.std.proofs.lemmas.Bool.{cases_eq, ne_eqb}
 use Rattle.tables.specs.Sums.{sum_to}
@@ -31,6 +31,10 @@ weight_small weight light (x ∷ rows) (suc r) = weight_small weight light rows 
 pub cond_most : (b : Bool) (x m : ℕ) → x ≤ m → cond b x 0 ≤ m
 cond_most true x m le = le
 cond_most false x m le = omega arith
+
+pub cond_and : (a b : Bool) (x : ℕ) → cond (a && b) x 0 ≡ cond a (cond b x 0) 0
+cond_and true b x = refl
+cond_and false b x = refl
 
 -- x more at place q
 pub place_more : (list : List ℕ) (q x : ℕ) → q < length list → (p before after : ℕ) → get_or list p 0 ≡ before → after ≡ before + cond (eqb p q) x 0 → get_or (set list q (get_or list q 0 + x)) p 0 ≡ after

@@ -10,6 +10,7 @@ mod pile;
 mod refined;
 mod signature;
 mod standard;
+mod weights;
 
 pub use blank::Blank;
 pub use breakup::Breakup;

@@ -3,32 +3,19 @@ ghost use Rattle.signatures.specs.Law.{given};
 ghost use Rattle.signatures.specs.Values.{paired, refined, refined_from, refined_sum};
 
 use crate::signature::Signature;
+use crate::weights::{is_on, weight_where};
 use lists::Lists;
 use rows::RowKind;
 use tables::Table;
 
-// The sum of the weights over the rows whose bits of both inputs are 1.
-fn weight_on_both<R: RowKind>(table: &Table<R>, input: usize, other: usize) -> u32
-    requires input_in { input < table.now.inputs }
-    requires other_in { other < table.now.inputs }
-    ensures { result ≡ paired R.RowKind.weight table.now.inputs table.now.rows.now input other }
-{
-    let mut sum = 0;
-    for (r, row) in table.rows.iter().enumerate() {
-        if (r >> input) % 2 == 1 && (r >> other) % 2 == 1 {
-            sum += row.weight() as u32;
-        }
-    }
-    sum
-}
-
+// The weight that the input shares with each input.
 fn pair_weights<R: RowKind>(table: &Table<R>, input: usize) -> [u32; 10]
     requires { input < table.now.inputs }
     ensures { (k : ℕ) → k < table.now.inputs → slice_index result k ≡ paired R.RowKind.weight table.now.inputs table.now.rows.now input k }
 {
     let mut weights = [0; 10];
-    for k in 0..table.inputs {
-        weights[k] = weight_on_both(table, input, k);
+    for (k, weight) in weights[..table.inputs].iter_mut().enumerate() {
+        *weight = weight_where(table, |r| is_on(r, input) && is_on(r, k));
     }
     weights
 }
@@ -42,9 +29,9 @@ fn refine(below: &Lists, pairs: &[u32; 10], input: usize, place: usize) -> u32
     ensures { result ≡ refined_sum below.now.inputs input (λ k. slice_index pairs.now k) (λ k. slice_index (slice_index_or below.now.answers k []) place) }
 {
     let mut sum = 0;
-    for k in 0..below.inputs {
+    for (k, answers) in below.answers[..below.inputs].iter().enumerate() {
         if k != input {
-            sum += pairs[k] * (1 + below.answers[k][place] % 4096);
+            sum += pairs[k] * (1 + answers[place] % 4096);
         }
     }
     sum
@@ -55,12 +42,11 @@ fn refined_list<R: RowKind>(table: &Table<R>, below: &Lists, input: usize) -> [u
     ensures { (p : ℕ) → slice_index result p ≡ given below.now.places (refined_from R.RowKind.weight below.now) table.now.inputs table.now.rows.now input p }
 {
     let mut list = [0; 64];
-    if input >= table.inputs {
-        return list;
-    }
-    let pairs = pair_weights(table, input);
-    for place in 0..below.places {
-        list[place] = refine(below, &pairs, input, place);
+    if input < table.inputs {
+        let pairs = pair_weights(table, input);
+        for (place, answer) in list[..below.places].iter_mut().enumerate() {
+            *answer = refine(below, &pairs, input, place);
+        }
     }
     list
 }
