@@ -1,6 +1,7 @@
 pub mod Places
 pub mod Asking
 pub mod Turns
+pub mod Tallies
 pub mod Ones
 pub mod Flips
 pub mod Neighbours

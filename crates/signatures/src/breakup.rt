@@ -1,6 +1,7 @@
 ghost use Rattle.signatures.specs.Values.{breakup};
 
 use crate::signature::Signature;
+use crate::weights::is_on;
 use rows::RowKind;
 use tables::Table;
 
@@ -23,7 +24,7 @@ impl<R: RowKind> Signature<R> for Breakup {
             return list;
         }
         for (r, row) in table.rows.iter().enumerate() {
-            if (r >> input) % 2 == 1 {
+            if is_on(r, input) {
                 let place = r.count_ones() as usize - 1;
                 list[place] += row.weight() as u32;
             }

@@ -2,7 +2,9 @@ ghost use Rattle.signatures.specs.Values.{neighbour};
 ghost use Rattle.signatures.specs.Counted.{Counted};
 
 use crate::signature::Signature;
+use crate::weights::is_on;
 use rows::RowKind;
+use std::cmp::Ordering;
 use tables::Table;
 
 // At which place a pair of neighbours counts. Rows that differ and weigh alike count at none.
@@ -12,13 +14,11 @@ fn place_of<R: RowKind>(off: &R, on: &R) -> Option<usize>
     if off.is_same(on) {
         return Some(0);
     }
-    if off.weight() < on.weight() {
-        return Some(1);
+    match off.weight().cmp(&on.weight()) {
+        Ordering::Less => Some(1),
+        Ordering::Greater => Some(2),
+        Ordering::Equal => None,
     }
-    if off.weight() > on.weight() {
-        return Some(2);
-    }
-    None
 }
 
 // Three places, over the pairs of rows that differ only in the input: how many are the same, in how many the row with
@@ -42,7 +42,7 @@ impl<R: RowKind> Signature<R> for Neighbour {
         }
         let bit = 1usize << input;
         for (r, on) in table.rows.iter().enumerate() {
-            if (r >> input) % 2 == 1 {
+            if is_on(r, input) {
                 if let Some(place) = place_of(&table.rows[r - bit], on) {
                     list[place] += 1;
                 }
