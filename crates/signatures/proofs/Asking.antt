@@ -1,7 +1,6 @@
 -- Which questions have an answer, and which get 0.
-use Rattle.std.proofs.Common.{◌≡◌, ℕ, ◌^◌, ◌<◌, ◌≤◌, cond, ltb, List, length, get_or, set, replicate, sym, ap, ◌∙◌, ⊎_elim, arith}
+use Rattle.std.proofs.Common.{◌≡◌, ℕ, ◌^◌, ◌<◌, ◌≤◌, cond, ltb, List, length, get_or, set, replicate, arith}
 use Rattle.std.proofs.lemmas.List.{get_or-set_other}
-use Rattle.std.proofs.lemmas.Bool.{cases_eq}
 use Rattle.std.proofs.lemmas.Bool.Decides.{nat_tests}
 use Rattle.signatures.proofs.Places.{zeros}
 use Rattle.signatures.specs.Law.{given, asked}
@@ -30,8 +29,4 @@ module _ {R : Type 0} (count : ℕ) (value : ℕ → List R → ℕ → ℕ → 
 
 -- a list of one place
 pub given_one : {R : Type 0} (value : ℕ → List R → ℕ → ℕ → ℕ) (n : ℕ) (rows : List R) (i x : ℕ) → i < n → x ≡ value n rows i 0 → (p : ℕ) → get_or (set (replicate 64 0) 0 x) p 0 ≡ given 1 value n rows i p
-given_one value n rows i x li e p =
-    ⊎_elim
-    (λ z. ap (λ q. get_or (set (replicate 64 0) 0 x) q 0) z ∙ e ∙ sym (given_yes 1 value n rows i 0 li (omega arith)) ∙ ap (λ q. given 1 value n rows i q) (sym z))
-    (λ nz. get_or-set_other (replicate 64 0) 0 p x 0 nz ∙ zeros 64 p ∙ sym (given_no_place 1 value n rows i p (omega arith)))
-    (cases_eq p 0)
+given_one value n rows i x li e p = let none = zeros 64 p in let other = get_or-set_other (replicate 64 0) 0 p x 0 in grind (arith, nat_tests)

@@ -1,5 +1,5 @@
 -- What the two signatures of the literature count.
-use Rattle.std.proofs.Common.{◌≡◌, ℕ, zero, suc, ◌+◌, ◌-◌, ◌^◌, ◌≤◌, Bool, true, false, cond, ◌&&◌, eqb, List, map, get_or, sum, count_by, sym, refl, ap, ◌∙◌, ⊎_elim, add-one, arith, pow_mono, eq-eqb}
+use Rattle.std.proofs.Common.{◌≡◌, ℕ, zero, suc, ◌+◌, ◌-◌, ◌^◌, ◌≤◌, Bool, cond, ◌&&◌, eqb, List, map, get_or, sum, count_by, sym, refl, ap, ◌∙◌, ⊎_elim, add-one, arith, pow_mono, eq-eqb}
 use lib.Count.{ones, ones-le}
 use lib.ListN.{get_or-map}
 use Rattle.std.proofs.lemmas.List.FromFn.{sum_by-map-range_with_len_more}
@@ -33,10 +33,7 @@ weight_on_lem : (rows : List OnOff) (r : ℕ) → weight_at on_off_weight rows r
 weight_on_lem rows r = get_or-map on_off_weight rows r Off ∙ weighs_on (get_or rows r Off)
 
 nest : (a b : Bool) → ◌≡◌ {A = ℕ} (cond b (cond a 1 0) 0) (cond (a && b) 1 0)
-nest true true = refl
-nest true false = refl
-nest false true = refl
-nest false false = refl
+nest a b = grind arith
 
 pub cofactor_counts : CofactorCounts
 cofactor_counts n rows i p =
@@ -44,14 +41,7 @@ cofactor_counts n rows i p =
     ∙ sum_counts (on_with rows i) (2 ^ n)
 
 nest_three : (a b c : Bool) → ◌≡◌ {A = ℕ} (cond b (cond c (cond a 1 0) 0) 0) (cond ((a && b) && c) 1 0)
-nest_three true true true = refl
-nest_three true true false = refl
-nest_three true false true = refl
-nest_three true false false = refl
-nest_three false true true = refl
-nest_three false true false = refl
-nest_three false false true = refl
-nest_three false false false = refl
+nest_three a b c = grind arith
 
 pub breakup_counts : BreakupCounts
 breakup_counts n rows i p =

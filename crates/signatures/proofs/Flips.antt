@@ -1,6 +1,7 @@
 -- A row with one bit turned over.
 use Rattle.std.proofs.Common.{◌≡◌, ℕ, ◌+◌, ◌-◌, ◌*◌, ◌^◌, ◌<◌, cond, eqb, sym, refl, ap, ◌∙◌, ⊎_elim, mod-eq_of_lt, arith, eq-eqb}
-use Rattle.std.proofs.lemmas.Bool.{cases_eq, cond_both, ne_eqb}
+use Rattle.std.proofs.lemmas.Bool.{cases_eq, ne_eqb}
+use Rattle.std.proofs.lemmas.Bool.Decides.{nat_tests}
 use Rattle.tables.specs.Sums.{sum_to}
 use Rattle.tables.specs.Wirings.{Wires}
 use Rattle.tables.specs.Agreement.{bit}
@@ -13,7 +14,7 @@ abbrev turn : ℕ → ℕ → ℕ → ℕ
 turn i r j = cond (eqb j i) (1 - bit j r) (bit j r)
 
 turn_lt : (i r j : ℕ) → turn i r j < 2
-turn_lt i r j = let a = bit_lt j r in cond_both (eqb j i) (1 - bit j r) (bit j r) (λ x. x < 2) (λ _. omega arith) (λ _. omega arith)
+turn_lt i r j = let a = bit_lt j r in grind (arith, nat_tests)
 
 turn_own : (i r j : ℕ) → j ≡ i → turn i r j ≡ 1 - bit j r
 turn_own i r j e = ap (λ t. cond t (1 - bit j r) (bit j r)) (eq-eqb j i e)
@@ -39,11 +40,10 @@ flip_other n i r j lt ne = flip_bit n i r j lt ∙ turn_other i r j ne
 
 flip-flip : (n i : ℕ) → i < n → (r : ℕ) → r < 2 ^ n → flip n i (flip n i r) ≡ r
 flip-flip n i li r lr = bits_ext n (flip n i (flip n i r)) r (flip_lt n i (flip n i r)) lr (λ j lj.
-    ⊎_elim
-    (λ e. let a = flip_own n i (flip n i r) li in let b = flip_own n i r li in let c = bit_lt i r in
-    ap (λ x. bit x (flip n i (flip n i r))) e ∙ (let z : bit i (flip n i (flip n i r)) ≡ bit i r = omega (arith, a, b, c) in z) ∙ ap (λ x. bit x r) (sym e))
-    (λ ne. flip_other n i (flip n i r) j lj ne ∙ flip_other n i r j lj ne)
-    (cases_eq j i))
+    let twice = flip_bit n i (flip n i r) j lj in
+    let once = flip_bit n i r j lj in
+    let small = bit_lt j r in
+    grind (arith, nat_tests))
 
 -- a sum over the rows, each with its bit i turned over
 pub flip_sum : (n i : ℕ) → i < n → (f : ℕ → ℕ) → sum_to (2 ^ n) (λ r. f (flip n i r)) ≡ sum_to (2 ^ n) f
@@ -57,13 +57,8 @@ flip_less n i r li lr on =
     ∙ sum_ext n (λ j. turn i r j * 2 ^ j + at i (2 ^ i) j) (λ j. bit j r * 2 ^ j) (λ j lj.
     ⊎_elim
     (λ e.
-    let b : bit j r ≡ 1 = ap (λ x. bit x r) e ∙ on in
-    let t : turn i r j ≡ 0 = (let o = turn_own i r j e in omega arith) in
-    let x : turn i r j * 2 ^ j ≡ 0 * 2 ^ j = ap (λ y. y * 2 ^ j) t in
-    let y : bit j r * 2 ^ j ≡ 1 * 2 ^ j = ap (λ y. y * 2 ^ j) b in
     let z = at_yes i (2 ^ i) j e in
-    let p : 2 ^ j ≡ 2 ^ i = ap (λ y. 2 ^ y) e in
-    omega arith)
+    rw e (grind (arith, nat_tests)))
     (λ ne. let x : turn i r j * 2 ^ j ≡ bit j r * 2 ^ j = ap (λ y. y * 2 ^ j) (turn_other i r j ne) in let z = at_no i (2 ^ i) j ne in omega arith)
     (cases_eq j i))
     ∙ number_bits n r ∙ mod-eq_of_lt lr

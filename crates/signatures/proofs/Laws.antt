@@ -1,7 +1,7 @@
 -- The law of each signature: a sum over the rows of a card is the sum over the rows that they are carried to.
-use Rattle.std.proofs.Common.{◌≡◌, ℕ, ◌+◌, ◌*◌, ◌%◌, ◌^◌, ◌<◌, Bool, true, cond, eqb, List, sym, ap, ◌∙◌, ⊎_elim, eq-eqb}
+use Rattle.std.proofs.Common.{arith, ◌≡◌, ℕ, ◌+◌, ◌*◌, ◌%◌, ◌^◌, ◌<◌, Bool, true, cond, eqb, List, sym, ap, ◌∙◌}
 use lib.Count.{ones}
-use Rattle.std.proofs.lemmas.Bool.{cases_eq, ne_eqb}
+use Rattle.std.proofs.lemmas.Bool.Decides.{nat_tests}
 use Rattle.tables.specs.Agreement.{bit, Agree}
 use Rattle.tables.proofs.Sums.{sum_reindex}
 use Rattle.tables.proofs.Onto.{back, back_into, there_back, back_there}
@@ -38,11 +38,7 @@ module _ {R : Type 0} (same : R → R → Bool) (weight : R → ℕ) (alike : (x
   pub refined_lawful : (count : ℕ) (below : ℕ → List R → ℕ → ℕ → ℕ) → Lawful count below same → Lawful count (refined weight below) same
   refined_lawful count below law n card part w a i p li lp =
       sum_reindex n w (back n w a.wires) _ _ a.wires.0 (back_into n w a.wires) (back_there n w a.wires) (there_back n w a.wires) (λ k lk.
-      let own : eqb k i ≡ eqb (w k) (w i) =
-      ⊎_elim
-      (λ e. eq-eqb k i e ∙ sym (eq-eqb (w k) (w i) (ap w e)))
-      (λ ne. ne_eqb k i ne ∙ sym (ne_eqb (w k) (w i) (λ e. ne (a.wires.1 k i (lk, li, e)))))
-      (cases_eq k i) in
+      let own : eqb k i ≡ eqb (w k) (w i) = (let to : k ≡ i → w k ≡ w i = ap w in let back = a.wires.1 k i in grind (arith, nat_tests)) in
       ap (λ b. cond b 0 (paired weight n card i k * (1 + below n card k p % 4096))) own
       ∙ ap (λ x. cond (eqb (w k) (w i)) 0 (x * (1 + below n card k p % 4096))) (paired_there n card part w a i k li lk)
       ∙ ap (λ x. cond (eqb (w k) (w i)) 0 (paired weight n part (w i) (w k) * (1 + x % 4096))) (law n card part w a k p lk lp))

@@ -1,7 +1,7 @@
 -- The law of neighbour, and what a pair of rows adds to it.
-use Rattle.std.proofs.Common.{◌≡◌, ℕ, zero, suc, ◌-◌, ◌^◌, ◌<◌, ◌≤◌, Bool, true, false, cond, eqb, ltb, List, [], ◌∷◌, length, get_or, drop, sym, refl, ap, ◌∙◌, ⊎_elim, arith, drop-cons, pow_pos}
+use Rattle.std.proofs.Common.{◌≡◌, ℕ, zero, suc, ◌-◌, ◌^◌, ◌<◌, ◌≤◌, Bool, true, cond, eqb, ltb, List, [], ◌∷◌, length, get_or, drop, sym, ap, ◌∙◌, ⊎_elim, arith, drop-cons, pow_pos}
 use Rattle.std.proofs.lemmas.List.{get_or_read}
-use Rattle.std.proofs.lemmas.Bool.{cases_eq, false≢true}
+use Rattle.std.proofs.lemmas.Bool.{cases_eq}
 use Rattle.tables.specs.Agreement.{bit, Agree}
 use Rattle.tables.proofs.Reindex.{row_there, there_lt, carried, sum_rows}
 use Rattle.signatures.specs.Law.{Lawful}
@@ -19,9 +19,7 @@ module _ {R : Type 0} (same : R → R → Bool) (weight : R → ℕ)
     (transitive : (x y z : R) → same x y ≡ true → same y z ≡ true → same x z ≡ true)
     (alike : (x y : R) → same x y ≡ true → weight x ≡ weight y) where
   both_true : (a b : Bool) → (a ≡ true → b ≡ true) → (b ≡ true → a ≡ true) → a ≡ b
-  both_true true b to from = sym (to refl)
-  both_true false true to from = absurd (false≢true (from refl))
-  both_true false false to from = refl
+  both_true a b to from = grind arith
 
   -- rows that are the same compare alike
   compares : (x y u v : R) → same x u ≡ true → same y v ≡ true → (p : ℕ) → compared same weight p x y ≡ compared same weight p u v

@@ -1,12 +1,12 @@
 -- The places of a list that begins as zeros.
 use Rattle.std.proofs.Common.{◌≡◌, ℕ, ◌+◌, ◌-◌, ◌<◌, cond, ltb, List, length, get_or, replicate, drop, ◌++◌, sym, ap, ◌∙◌, ⊎_elim, arith}
-use Rattle.std.proofs.lemmas.List.{get_or-replicate, get_or_past, get_or-drop, get_or_append_left, get_or-append_right, length-replicate}
+use Rattle.std.proofs.lemmas.List.{get_or-replicate, get_or-drop, get_or_append_left, get_or-append_right}
+use Rattle.std.proofs.lemmas.Grind.{common_steps}
 use Rattle.std.proofs.lemmas.Bool.{cases_lt, lt-ltb, le-ltb}
 
 pub zeros : (n p : ℕ) → ◌≡◌ {A = ℕ} (get_or (replicate n 0) p 0) 0
 zeros n p =
-    let none : List ℕ = replicate n 0 in
-    ⊎_elim (λ l. get_or-replicate n p 0 0 l) (λ ge. get_or_past none p 0 (let e : length none ≡ n = length-replicate n 0 in omega arith)) (cases_lt p n)
+    ⊎_elim (get_or-replicate {A = ℕ} n p 0 0) (λ ge. grind (arith, common_steps)) (cases_lt p n)
 
 -- a list of zeros with other numbers in its first places
 pub filled : (value : ℕ → ℕ) (list : List ℕ) (n : ℕ) → length list ≡ n → ((p : ℕ) → p < n → get_or list p 0 ≡ value p) → (p : ℕ) → get_or (list ++ drop n (replicate 64 0)) p 0 ≡ cond (ltb p n) (value p) 0

@@ -1,14 +1,14 @@
 -- Two inputs are both on in a quarter of the rows, so what they share weighs at most 65,280.
-use Rattle.std.proofs.Common.{◌≡◌, ℕ, zero, suc, ◌+◌, ◌*◌, ◌%◌, ◌^◌, ◌<◌, ◌≤◌, List, sym, refl, ap, ◌∙◌, ⊎_elim, mod-lt, arith, pow_mono}
+use Rattle.std.proofs.Common.{◌≡◌, ℕ, zero, suc, ◌+◌, ◌*◌, ◌%◌, ◌^◌, ◌<◌, ◌≤◌, List, sym, refl, ap, ◌∙◌, mod-lt, arith, pow_mono}
 use Rattle.std.proofs.lemmas.Nat.{mul-le}
-use Rattle.std.proofs.lemmas.Bool.{cases_eq}
+use Rattle.std.proofs.lemmas.Bool.Decides.{nat_tests}
 use Rattle.tables.specs.Sums.{sum_to}
 use Rattle.tables.specs.Agreement.{bit}
 use Rattle.tables.proofs.Sums.{sum_ext, sum_add, sum_le}
 use Rattle.tables.proofs.Digits.{bit_lt}
 use Rattle.signatures.specs.Values.{where_on, weight_at, paired}
 use Rattle.signatures.proofs.Flips.{flip, flip_own, flip_other, flip_sum}
-use Rattle.signatures.proofs.Turns.{on_yes, on_no, weight_small}
+use Rattle.signatures.proofs.Turns.{weight_small}
 
 sum_ones : (n : ℕ) → sum_to n (λ _. 1) ≡ n
 sum_ones zero = refl
@@ -37,23 +37,12 @@ two_bits n i k li lk ne =
     ∙ sum_ext (2 ^ n) (λ r. both i k (flip n i r) + both i k r) (bit k) (λ r _.
     let kept = flip_other n i r k lk ne in
     let turned = flip_own n i r li in
-    ⊎_elim
-    (λ on. let a = on_no i (flip n i r) (bit k (flip n i r)) (λ e. omega arith) in let b = on_yes i r (bit k r) on in omega arith)
-    (λ off. let z = bit_lt i r in let a = on_yes i (flip n i r) (bit k (flip n i r)) (omega arith) in let b = on_no i r (bit k r) off in omega arith)
-    (cases_eq (bit i r) 1))
+    let small = bit_lt i r in
+    grind (arith, nat_tests))
 
 module _ {R : Type 0} (weight : R → ℕ) (light : (x : R) → weight x < 256) where
   both_small : (rows : List R) (i k r : ℕ) → where_on i r (where_on k r (weight_at weight rows r)) ≤ 255 * both i k r
-  both_small rows i k r =
-      let s = weight_small weight light rows r in
-      let here = weight_at weight rows r in
-      ⊎_elim
-      (λ on. ⊎_elim
-      (λ too. let a = on_yes i r (where_on k r here) on in let b = on_yes k r here too in let c = on_yes i r (bit k r) on in omega arith)
-      (λ off. let a = on_yes i r (where_on k r here) on in let b = on_no k r here off in omega arith)
-      (cases_eq (bit k r) 1))
-      (λ off. let a = on_no i r (where_on k r here) off in omega arith)
-      (cases_eq (bit i r) 1)
+  both_small rows i k r = let s = weight_small weight light rows r in grind (arith, nat_tests)
 
   pub paired_small : (n : ℕ) (rows : List R) (i k : ℕ) → n ≤ 10 → i < n → k < n → (k ≡ i → ⊥) → paired weight n rows i k ≤ 65280
   paired_small n rows i k le li lk ne =

@@ -1,5 +1,5 @@
 -- One row more in a sum over rows.
-use Rattle.std.proofs.Common.{◌≡◌, ℕ, zero, suc, ◌+◌, ◌*◌, ◌<◌, ◌≤◌, Bool, true, false, cond, ◌&&◌, eqb, List, [], ◌∷◌, length, get_or, sym, refl, ap, ◌∙◌, mul-suc, add-one, arith, eq-eqb}
+use Rattle.std.proofs.Common.{◌≡◌, ℕ, zero, suc, ◌+◌, ◌*◌, ◌<◌, ◌≤◌, Bool, true, false, cond, ◌&&◌, eqb, List, [], ◌∷◌, length, get_or, sym, ap, ◌∙◌, mul-suc, add-one, arith, eq-eqb}
 use Rattle.std.proofs.lemmas.List.{get_or-map}
 use Rattle.std.proofs.lemmas.Bool.{ne_eqb, eqb-true, eqb-false}
 use Rattle.tables.specs.Sums.{sum_to}
@@ -36,9 +36,7 @@ weight_small weight light (x ∷ rows) zero = let a = light x in omega arith
 weight_small weight light (x ∷ rows) (suc r) = weight_small weight light rows r
 
 pub cond_most : (b : Bool) (x m : ℕ) → x ≤ m → cond b x 0 ≤ m
-cond_most true x m le = le
-cond_most false x m le = omega arith
+cond_most b x m le = grind arith
 
 pub cond_and : (a b : Bool) (x : ℕ) → cond (a && b) x 0 ≡ cond a (cond b x 0) 0
-cond_and true b x = refl
-cond_and false b x = refl
+cond_and a b x = grind arith

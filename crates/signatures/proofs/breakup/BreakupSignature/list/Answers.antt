@@ -1,13 +1,13 @@
-use Rattle.std.proofs.Common.{◌≡◌, ℕ, ◌+◌, ◌-◌, ◌^◌, ◌<◌, ◌≤◌, cond, eqb, List, sym, refl, ap, subst, lit≤, ◌∙◌, ⊎_elim, arith, pow_mono, eq-eqb}
+use Rattle.std.proofs.Common.{◌≡◌, ℕ, ◌+◌, ◌-◌, ◌^◌, ◌<◌, ◌≤◌, cond, eqb, List, sym, refl, subst, lit≤, ◌∙◌, arith, pow_mono}
 use lib.Count.{ones, ones-le}
-use Rattle.std.proofs.lemmas.Bool.{cases_eq, ne_eqb}
+use Rattle.std.proofs.lemmas.Bool.Decides.{nat_tests}
 use Rattle.tables.specs.Agreement.{bit}
 use Rattle.signatures.specs.Values.{where_on, weight_at, breakup}
 use Rattle.signatures.proofs.Asking.{given_no_input}
 use Rattle.signatures.proofs.Places.{zeros}
 use Rattle.signatures.proofs.Ones.{ones_some}
 use Rattle.signatures.proofs.Tallies.{Tally, tally_none, tally_most, tally_same, tally_more, tally_given}
-use Rattle.signatures.proofs.Turns.{on_yes, on_no, on_from, off_from, weight_is, weight_small, cond_most}
+use Rattle.signatures.proofs.Turns.{on_no, on_from, off_from, weight_is, weight_small, cond_most}
 use Rattle.signatures.proofs.breakup.BreakupSignature.list.Goals as goal
 use Rattle.signatures.proofs.breakup.BreakupSignature.list.Goals.{then-is_on, else-is_on}
 
@@ -38,12 +38,7 @@ term_small : {R : Type 0} (weight : R → ℕ) → ((x : R) → weight x < 256) 
 term_small weight light rows i p r = cond_most (eqb (bit i r) 1) _ 255 (cond_most (eqb (ones r) (p + 1)) _ 255 (weight_small weight light rows r))
 
 term_on : {R : Type 0} (weight : R → ℕ) (rows : List R) (i p r x : ℕ) → bit i r ≡ 1 → 1 ≤ ones r → weight_at weight rows r ≡ x → term weight rows i p r ≡ cond (eqb p (ones r - 1)) x 0
-term_on weight rows i p r x on some e =
-    on_yes i r _ on ∙ ap (λ y. cond (eqb (ones r) (p + 1)) y 0) e
-    ∙ ⊎_elim
-    (λ same. ap (λ t. cond t x 0) (eq-eqb (ones r) (p + 1) same ∙ sym (eq-eqb p (ones r - 1) (omega arith))))
-    (λ other. ap (λ t. cond t x 0) (ne_eqb (ones r) (p + 1) other ∙ sym (ne_eqb p (ones r - 1) (λ same. other (omega arith)))))
-    (cases_eq (ones r) (p + 1))
+term_on weight rows i p r x on some e = grind (arith, nat_tests)
 
 pub overflow_add-list : goal.overflow_add-list
 overflow_add-list g c =
