@@ -1,17 +1,18 @@
 -- What the two signatures of the literature count.
-use Rattle.std.proofs.Common.{◌≡◌, ℕ, zero, suc, ◌+◌, ◌-◌, ◌^◌, ◌≤◌, Bool, cond, ◌&&◌, eqb, List, map, get_or, sum, count_by, sym, refl, ap, ◌∙◌, ⊎_elim, add-one, arith, pow_mono, eq-eqb}
+use Rattle.std.proofs.Common.{◌≡◌, ℕ, zero, suc, ◌+◌, ◌-◌, ◌^◌, ◌≤◌, Bool, cond, ◌&&◌, eqb, List, map, get_or, sum, count_by, sym, refl, ap, ◌∙◌, ⊎_elim, add-one, arith, pow_mono}
 use lib.Count.{ones, ones-le}
 use lib.ListN.{get_or-map}
 use Rattle.std.proofs.lemmas.List.FromFn.{sum_by-map-range_with_len_more}
 use Rattle.std.proofs.lemmas.List.Sums.{sum-map}
-use Rattle.std.proofs.lemmas.Bool.{cases_eq, ne_eqb}
+use Rattle.std.proofs.lemmas.Bool.{cases_eq}
+use Rattle.std.proofs.lemmas.Bool.Decides.{nat_tests}
 use Rattle.std.specs.List.{range_with_len}
 use Rattle.rows.specs.Kinds.{on_off_weight}
 use Rattle.rows.specs.declared.on_off.OnOff.{OnOff}
 use Rattle.rows.specs.declared.on_off.OnOff.TheVariants.{Off, On}
 use Rattle.tables.specs.Agreement.{bit}
 use Rattle.tables.specs.Sums.{sum_to}
-use Rattle.tables.proofs.Sums.{sum_ext, sum_swap, sum_zero, sum_single, at, at_yes, at_no}
+use Rattle.tables.proofs.Sums.{sum_ext, sum_swap, sum_zero, sum_single, at}
 use Rattle.signatures.specs.Literature.{is_on, on_with, CofactorCounts, BreakupCounts, BreakupSums}
 use Rattle.signatures.specs.Values.{where_on, weight_at}
 use Rattle.signatures.proofs.Ones.{ones_some}
@@ -59,12 +60,7 @@ breakup_sums weight n rows i few li =
     let top : 2 ^ n ≤ 2 ^ 10 = pow_mono few in
     let some = ones_some n i r lr li on in
     let most = ones-le 10 r (omega arith) in
-    sum_ext 10 (λ p. term p r) (at (ones r - 1) (weight_at weight rows r)) (λ p _.
-    on_yes i r _ on
-    ∙ ⊎_elim
-    (λ e. ap (λ t. cond t (weight_at weight rows r) 0) (eq-eqb (ones r) (p + 1) e) ∙ sym (at_yes (ones r - 1) (weight_at weight rows r) p (omega arith)))
-    (λ ne. ap (λ t. cond t (weight_at weight rows r) 0) (ne_eqb (ones r) (p + 1) ne) ∙ sym (at_no (ones r - 1) (weight_at weight rows r) p (λ e. ne (omega arith))))
-    (cases_eq (ones r) (p + 1)))
+    sum_ext 10 (λ p. term p r) (at (ones r - 1) (weight_at weight rows r)) (λ p _. grind (arith, nat_tests))
     ∙ sum_single 10 (ones r - 1) (weight_at weight rows r) (omega arith) ∙ sym (on_yes i r _ on))
     (λ off. sum_ext 10 (λ p. term p r) (λ _. 0) (λ p _. on_no i r (cond (eqb (ones r) (p + 1)) (weight_at weight rows r) 0) off) ∙ sum_zero 10 ∙ sym (on_no i r _ off))
     (cases_eq (bit i r) 1))

@@ -8,7 +8,7 @@ use Rattle.tables.specs.Agreement.{bit}
 use Rattle.tables.proofs.Sums.{sum_ext, sum_reindex, sum_add, sum_single, at, at_yes, at_no}
 use Rattle.tables.proofs.Digits.{number, bit_lt, number_lt, bit_number, number_bits, bits_ext}
 use Rattle.tables.proofs.Onto.{back, back_into, there_back, back_there}
-use Rattle.tables.proofs.Reindex.{row_there, there_lt, bit_there, carried}
+use Rattle.tables.proofs.Reindex.{row_there, there_lt, bit_there}
 
 abbrev turn : ℕ → ℕ → ℕ → ℕ
 turn i r j = cond (eqb j i) (1 - bit j r) (bit j r)
@@ -68,13 +68,9 @@ pub flip_there : (n : ℕ) (w : ℕ → ℕ) (h : Wires n w) (i r : ℕ) → i <
 flip_there n w h i r li =
     bits_ext n (row_there n w h (flip n i r)) (flip n (w i) (row_there n w h r)) (there_lt n w h (flip n i r)) (flip_lt n (w i) (row_there n w h r)) (λ j lj.
     let b = back n w h j in
-    let lb = back_into n w h j lj in
-    bit_there n w h (flip n i r) j lj
-    ∙ ⊎_elim
-    (λ e.
-    let own : b ≡ i = ap (back n w h) e ∙ back_there n w h i li in
-    ap (λ x. bit x (flip n i r)) own ∙ flip_own n i r li ∙ ap (λ x. 1 - x) (sym (carried n w h r i li)) ∙ sym (flip_own n (w i) (row_there n w h r) (h.0 i li)) ∙ ap (λ x. bit x (flip n (w i) (row_there n w h r))) (sym e))
-    (λ ne.
-    let other : b ≡ i → ⊥ = λ e. ne (sym (there_back n w h j lj) ∙ ap w e) in
-    flip_other n i r b lb other ∙ sym (bit_there n w h r j lj) ∙ sym (flip_other n (w i) (row_there n w h r) j lj ne))
-    (cases_eq j (w i)))
+    let own : j ≡ w i → b ≡ i = λ e. ap (back n w h) e ∙ back_there n w h i li in
+    let other : b ≡ i → j ≡ w i = λ e. sym (there_back n w h j lj) ∙ ap w e in
+    let left = bit_there n w h (flip n i r) j lj ∙ flip_bit n i r b (back_into n w h j lj) in
+    let right = flip_bit n (w i) (row_there n w h r) j lj in
+    let carry = bit_there n w h r j lj in
+    grind (arith, nat_tests))

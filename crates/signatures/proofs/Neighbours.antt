@@ -1,5 +1,5 @@
 -- The law of neighbour, and what a pair of rows adds to it.
-use Rattle.std.proofs.Common.{◌≡◌, ℕ, zero, suc, ◌-◌, ◌^◌, ◌<◌, ◌≤◌, Bool, true, cond, eqb, ltb, List, [], ◌∷◌, length, get_or, drop, sym, ap, ◌∙◌, ⊎_elim, arith, drop-cons, pow_pos}
+use Rattle.std.proofs.Common.{◌≡◌, ℕ, zero, suc, ◌-◌, ◌^◌, ◌<◌, ◌≤◌, Bool, true, cond, eqb, List, [], ◌∷◌, length, get_or, drop, sym, ap, ◌∙◌, ⊎_elim, arith, drop-cons, pow_pos}
 use Rattle.std.proofs.lemmas.List.{get_or_read}
 use Rattle.std.proofs.lemmas.Bool.{cases_eq}
 use Rattle.tables.specs.Agreement.{bit, Agree}
@@ -25,8 +25,8 @@ module _ {R : Type 0} (same : R → R → Bool) (weight : R → ℕ)
   compares : (x y u v : R) → same x u ≡ true → same y v ≡ true → (p : ℕ) → compared same weight p x y ≡ compared same weight p u v
   compares x y u v xu yv zero =
       both_true (same x y) (same u v) (λ xy. transitive u y v (transitive u x y (symmetric x u xu) xy) yv) (λ uv. transitive x v y (transitive x u v xu uv) (symmetric y v yv))
-  compares x y u v xu yv (suc zero) = ap (λ a. ltb a (weight y)) (alike x u xu) ∙ ap (λ b. ltb (weight u) b) (alike y v yv)
-  compares x y u v xu yv (suc (suc p)) = ap (λ a. ltb (weight y) a) (alike x u xu) ∙ ap (λ b. ltb b (weight u)) (alike y v yv)
+  compares x y u v xu yv (suc zero) = let one = alike x u xu in let two = alike y v yv in cc
+  compares x y u v xu yv (suc (suc p)) = let one = alike x u xu in let two = alike y v yv in cc
 
   abbrev tally : ℕ → R → R → ℕ
   tally p off on = cond (compared same weight p off on) 1 0
