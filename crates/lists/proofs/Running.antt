@@ -1,12 +1,13 @@
 -- The product of factorials, an input at a time.
-use Rattle.std.proofs.Common.{◌≡◌, ℕ, zero, suc, ◌+◌, ◌*◌, ◌^◌, ◌<◌, ◌≤◌, min, eqb, ◌⊎◌, List, [], ◌∷◌, map, length, get_or, drop, sym, refl, ap, ◌∙◌, inl, inr, ⊎_elim, mul_assoc, mul-le-mul, mul-pos, one-mul, mul-one, le-mul_of_pos_right, mul_left_comm, one-add, arith}
+use Rattle.std.proofs.Common.{◌≡◌, ℕ, zero, suc, ◌+◌, ◌*◌, ◌^◌, ◌<◌, ◌≤◌, min, eqb, List, [], ◌∷◌, map, length, get_or, drop, sym, refl, ap, ◌∙◌, ⊎_elim, mul_assoc, mul-le-mul, mul-pos, one-mul, mul-one, le-mul_of_pos_right, mul_left_comm, one-add, arith}
 use native.Mathlib.Nat.{mul-mul-mul_comm, pow-zero, pow-succ'}
 use Rattle.std.proofs.lemmas.List.{at_drop_more}
 use Rattle.std.proofs.lemmas.List.Sums.{count_by-le-length}
-use Rattle.std.proofs.lemmas.Bool.{cases_Bool, cases_eq, cond-true, cond-false, cond_both, eqb-true, eqb-false}
+use Rattle.std.proofs.lemmas.Bool.{cases_Bool, cases_eq, cond-true, cond-false, cond_both, eqb-true}
+use Rattle.std.proofs.lemmas.Bool.Decides.{nat_tests}
 use Rattle.lists.specs.Lists.{equal}
 use Rattle.lists.specs.Spread.{times, once, factorial, product, level, spread}
-use Rattle.lists.proofs.Times.{cases_list, one, one_same, one_other, times_cons, Level, level_decides}
+use Rattle.lists.proofs.Times.{cases_list, one_same, one_other, times_cons, Level, level_decides}
 
 -- an input can go to as many pins as it and the later inputs have its list
 abbrev pub running : List (List ℕ) → ℕ
@@ -35,10 +36,11 @@ once_times x [] = refl
 once_times x (z ∷ zs) =
     let rest = once_times x zs in
     let all = times_cons x z zs in
-    let here : ((one x z ≡ 1) × (times x zs ≡ times z zs)) ⊎ (one x z ≡ 0) = ⊎_elim (λ same. inl (one_same x z same, ap (λ y. times y zs) same)) (λ other. inr (one_other x z other)) (cases_list x z) in
-    cond_both (eqb (times z zs) 0) (z ∷ once zs) (once zs) (λ l. times x l ≡ min (times x (z ∷ zs)) 1)
-    (λ new. let none = eqb-true (times z zs) 0 new in let more = times_cons x z (once zs) in ⊎_elim (λ h. omega (arith, h.0, h.1)) (λ h. omega arith) here)
-    (λ old. let some = eqb-false (times z zs) 0 old in ⊎_elim (λ h. omega (arith, h.0, h.1)) (λ h. omega arith) here)
+    let more = times_cons x z (once zs) in
+    let here = one_same x z in
+    let there = one_other x z in
+    let same : x ≡ z → times x zs ≡ times z zs = λ e. ap (λ y. times y zs) e in
+    ⊎_elim (λ e. grind (arith, nat_tests)) (λ ne. grind (arith, nat_tests)) (cases_list x z)
 
 -- x brings a factor only if it is new
 once_more : (f : List ℕ → ℕ) (x : List ℕ) (xs : List (List ℕ)) → (times x xs ≡ 0 → f x ≡ 1) → product (map f (once (x ∷ xs))) ≡ product (map f (once xs))

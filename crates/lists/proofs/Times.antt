@@ -70,10 +70,9 @@ apart_once : (x : List ℕ) (xs : List (List ℕ)) → Apart xs → times x xs �
 apart_once x [] a = omega arith
 apart_once x (y ∷ ys) a =
     ⊎_elim
-    (λ same. ⊎_elim
-    (λ none. omega (arith, times_cons x y ys, one_same x y same))
-    (λ some. absurd (a.0 (subst (λ z. Mem z ys) same (times_mem x ys (omega arith)))))
-    (cases_eq (times x ys) 0))
+    (λ same.
+    let none : times x ys ≡ 0 = ⊎_elim (λ z. z) (λ some. absurd (a.0 (subst (λ z. Mem z ys) same (times_mem x ys (omega arith))))) (cases_eq (times x ys) 0) in
+    omega (arith, times_cons x y ys, one_same x y same))
     (λ other. omega (arith, times_cons x y ys, one_other x y other, apart_once x ys a.1))
     (cases_list x y)
 

@@ -9,13 +9,13 @@ use Rattle.std.proofs.lemmas.Bool.{eq-eqb, ne_eqb}
 use Rattle.tables.specs.Sums.{sum_to}
 use Rattle.tables.specs.Wirings as wirings
 use Rattle.tables.specs.Wirings.{pin, Wires}
-use Rattle.tables.proofs.Sums.{sum_ext, sum_reindex}
+use Rattle.tables.proofs.Sums.{sum_reindex}
 use Rattle.tables.proofs.Onto.{back, back_into, there_back, back_there}
 use Rattle.lists.specs.Lists.{list, lists, equal, Keeps}
 use Rattle.lists.specs.Spread.{times, spread}
 use Rattle.lists.specs.Counting.{Mem, AtMost}
 use Rattle.lists.specs.declared.lists.Lists.{Lists}
-use Rattle.lists.proofs.Rows.{length-lists}
+use Rattle.lists.proofs.Rows.{length-lists, sum_from}
 use Rattle.lists.proofs.Members.{mem-get_or, mem_sum, mem_map, mem_joined, mem_kept, kept_mem, length-joined}
 use Rattle.lists.proofs.Times.{equal_decides, one, one_same, times_cons, apart_le, Level}
 use Rattle.lists.proofs.Running.{running, spread_running}
@@ -78,9 +78,7 @@ module _ (card part : Lists) (n : ℕ) (inputs : card.inputs ≡ n) (pins : part
   part_times x = sum_all (one x) [] (lists part) n (length-lists part ∙ pins)
 
   pins_held : (x : List ℕ) → held (list part) x (range_with_len 0 n) ≡ times x (lists part)
-  pins_held x =
-      let add : ℕ → ℕ = λ p. one x (list part p) in
-      sum_all add 0 (range_with_len 0 n) n (length-range_with_len 0 n) ∙ sum_ext n (λ i. add (get_or (range_with_len 0 n) i 0)) add (λ i li. ap add (get_or-range_with_len 0 n i 0 li ∙ omega arith)) ∙ sym (part_times x)
+  pins_held x = sum_from (one x) [] (lists part) 0 n (omega (arith, length-lists part, pins))
 
   -- a wiring that keeps the lists gives each list as many pins as inputs
   kept_level : (w : ℕ → ℕ) → Wires n w → Keeps n card part w → Level (lists card) (lists part)
