@@ -1,11 +1,18 @@
 -- What is proposed and measured depends on which parts stand, and on a wiring's pins for the card's inputs.
-use Rattle.std.proofs.Common.{ℕ, Bool, List, ap, ◌∙◌}
+use Rattle.std.proofs.Common.{◌≡◌, ℕ, ◌<◌, ◌⊎◌, Bool, List, ap, ◌∙◌}
 use Rattle.tables.specs.Wirings.{Alike}
 use Rattle.tables.proofs.Alikes.{agree_alike, other_alike, before_alike}
 use Rattle.ledger.specs.Ledger.{Part}
-use Rattle.ledger.specs.Law.{NoPart, Proposes, Spreads}
+use Rattle.ledger.specs.Law.{NoPart, Proposes, Serves, Spreads}
 
 module _ {R P : Type 0} (same : R → R → Bool) (list : P → ℕ → List R → ℕ → List ℕ) (inputs : ℕ) (card : List R) where
+  -- a part of the one kind that stays the lowest is proposed of the other kind too
+  pub proposes_among : (A B : Part R → Type 0) (pile : P) (number : ℕ) (w : ℕ → ℕ) (struck : ℕ) → (x : Proposes same list A inputs card pile number w struck) → B x.part
+      → ((other : Part R) (v : ℕ → ℕ) → B other → Serves same list B inputs card other v → (other ≡ x.part) ⊎ (number < other.number))
+      → Proposes same list B inputs card pile number w struck
+  proposes_among A B pile number w struck x stands lowest =
+      record { part = x.part; stands = stands; named = x.named; serves = x.serves; lowest = lowest; first = x.first; spared = x.spared; count = x.count }
+
   -- the same parts stand
   module _ (A B : Part R → Type 0) (to : (p : Part R) → A p → B p) (from : (p : Part R) → B p → A p) where
     pub no_part_over : NoPart same list A inputs card → NoPart same list B inputs card
@@ -13,25 +20,10 @@ module _ {R P : Type 0} (same : R → R → Bool) (list : P → ℕ → List R �
 
     pub proposes_over : (pile : P) (number : ℕ) (w : ℕ → ℕ) (struck : ℕ)
         → Proposes same list A inputs card pile number w struck → Proposes same list B inputs card pile number w struck
-    proposes_over pile number w struck x = record {
-      part = x.part;
-      stands = to x.part x.stands;
-      named = x.named;
-      serves = x.serves;
-      lowest = λ other v stands. x.lowest other v (from other stands);
-      first = x.first;
-      spared = x.spared;
-      count = x.count;
-    }
+    proposes_over pile number w struck x = proposes_among A B pile number w struck x (to x.part x.stands) (λ other v stands. x.lowest other v (from other stands))
 
     pub spreads_over : (pile : P) (number k : ℕ) → Spreads same list A inputs card pile number k → Spreads same list B inputs card pile number k
-    spreads_over pile number k x = record {
-      part = x.part;
-      stands = to x.part x.stands;
-      named = x.named;
-      formula = x.formula;
-      bound = x.bound;
-    }
+    spreads_over pile number k x = record { part = x.part; stands = to x.part x.stands; named = x.named; formula = x.formula; bound = x.bound }
 
   pub proposes_alike : (standing : Part R → Type 0) (pile : P) (number : ℕ) (v w : ℕ → ℕ) (struck : ℕ) → Alike inputs v w
       → Proposes same list standing inputs card pile number v struck → Proposes same list standing inputs card pile number w struck

@@ -1,4 +1,3 @@
-use Rattle.std.proofs.Common.{refl}
 use Rattle.ledger.proofs.One.{stand_once, one_answer, one_transcript, ten_exactly}
 use Rattle.ledger.specs.Law.{list_by}
 use Rattle.ledger.proofs.fixed.law_fixes_answers.Goals as goal
@@ -11,6 +10,5 @@ returns g c =
       once = stand_once same list;
       answer = one_answer same list;
       transcript = one_transcript same list;
-      zero = refl;
       ten = ten_exactly same list;
     }
