@@ -1,11 +1,12 @@
 -- The best proposal of the slots so far, and one slot more.
 use Rattle.std.proofs.Common.{◌≡◌, ℕ, ◌+◌, ◌*◌, ◌^◌, ◌<◌, ◌≤◌, Bool, true, ◌⊎◌, List, length, get_or, drop, Some, None, Option, sym, refl, ap, ◌∙◌, subst, inl, inr, ⊎_elim, arith, length-drop, length-take-le}
+use Rattle.std.specs.Option.{option_or}
 use Rattle.std.proofs.lemmas.List.{get_or_default}
 use Rattle.std.proofs.lemmas.Bool.{cases_eq, cases_lt}
 use Rattle.tables.specs.Wirings.{pin}
 use Rattle.ledger.specs.Ledger.{Part}
 use Rattle.ledger.specs.Law.{Serves}
-use Rattle.ledger.proofs.Serving.{no_part_over, proposes_over}
+use Rattle.ledger.proofs.Serving.{no_part_over, proposes_among, proposes_over}
 use Rattle.inventory.specs.Slots.{At, Held, HeldBelow, front, has, share}
 use Rattle.inventory.specs.Fitting.{Best, Worth}
 use Rattle.inventory.specs.declared.label.Label.{Label}
@@ -39,20 +40,11 @@ module _ {R P : Type 0} (same : R → R → Bool) (list : P → ℕ → List R �
     best_kept (Some p) found worse =
         let q = found.1 in (
           found.0,
-          record {
-            part = q.part;
-            stands = grow q.part q.stands;
-            named = q.named;
-            serves = q.serves;
-            lowest = λ other v stands serves.
-                ⊎_elim
-                (λ b. q.lowest other v b serves)
-                (λ h. let o = worse other v h serves in let e = ap (λ x. x.number) (same_proposal p o.0 o.1) in let lt = o.2 in inr (omega arith))
-                (split other stands);
-            first = q.first;
-            spared = q.spared;
-            count = q.count;
-          },
+          proposes_among same list inputs card before after pile p.number (pin p.wiring.pins) p.struck q (grow q.part q.stands) (λ other v stands serves.
+              ⊎_elim
+              (λ b. q.lowest other v b serves)
+              (λ h. let o = worse other v h serves in let e = ap (λ x. x.number) (same_proposal p o.0 o.1) in let lt = o.2 in inr (omega arith))
+              (split other stands)),
         )
 
     -- every part before that serves has a higher number than a better proposal
@@ -69,16 +61,8 @@ module _ {R P : Type 0} (same : R → R → Bool) (list : P → ℕ → List R �
     best_new best p old found better =
         let n = found.1 in (
           found.0,
-          record {
-            part = n.part;
-            stands = add n.part n.stands;
-            named = n.named;
-            serves = n.serves;
-            lowest = λ other v stands serves. ⊎_elim (λ b. inr (higher best p old better other v b serves)) (λ h. n.lowest other v h serves) (split other stands);
-            first = n.first;
-            spared = n.spared;
-            count = n.count;
-          },
+          proposes_among same list inputs card here after pile p.number (pin p.wiring.pins) p.struck n (add n.part n.stands) (λ other v stands serves.
+              ⊎_elim (λ b. inr (higher best p old better other v b serves)) (λ h. n.lowest other v h serves) (split other stands)),
         )
 
 -- the slots below k, slot k, and the slots below k + 1
@@ -132,20 +116,17 @@ module _ {R P : Type 0} (same : R → R → Bool) (list : P → ℕ → List R �
     abbrev Here : Option Proposal → Type 0
     Here r = Best same list (λ x. x ≡ part_at memory k label) inputs card pile r
 
-    -- a slot that was searched in vain
-    pub slot_unfit : Here None → Upto (k + 1) best
-    slot_unfit none = kept_slot k best old (λ other v a serves. absurd (none other v (only_at slots memory k label slot other a) serves))
-
-    -- a slot with a lower part that serves
-    pub slot_taken : (p : Proposal) → Here (Some p) → ((q : Proposal) → best ≡ Some q → p.number < q.number) → Upto (k + 1) (Some p)
-    slot_taken p found better =
+    -- a slot that was searched: a lower part that serves is taken
+    pub slot_searched : (r : Option Proposal) → Here r → ((q : Proposal) → best ≡ Some q → label.number < q.number) → Upto (k + 1) (option_or r best)
+    slot_searched None none lower = kept_slot k best old (λ other v a serves. absurd (none other v (only_at slots memory k label slot other a) serves))
+    slot_searched (Some p) found lower =
         best_new same list inputs card pile (HeldBelow slots memory k) (At slots memory k) (HeldBelow slots memory (k + 1)) (held_grow slots memory k) (held_add slots memory k) (held_split slots memory k)
         best p old (
           found.0,
           proposes_over same list inputs card (λ x. x ≡ part_at memory k label) (At slots memory k)
               (λ part e. subst (At slots memory k) (sym e) (at_label slots memory k label slot)) (only_at slots memory k label slot) pile p.number (pin p.wiring.pins) p.struck found.1,
         )
-        better
+        (λ q e. let number = ap (λ x. x.number) found.1.stands in let named = found.1.named in let less = lower q e in omega arith)
 
 -- what stands in a slot, whatever the read takes for a default
 pub slot_read : (shelf : Shelf) (k : ℕ) (x : Option Label) → k < 64 → get_or shelf.slots k x ≡ get_or shelf.slots k None

@@ -11,7 +11,7 @@ impl Shelf {
     pub fn open(slots: usize) -> Result<Shelf, Refusal>
         ensures { Outcome (open_due slots) (IsEmpty slots) result }
     {
-        if slots == 0 || slots > 64 {
+        if !(1..=64).contains(&slots) {
             return Err(Refusal::WrongShelfSize);
         }
         Ok(Shelf {

@@ -77,13 +77,8 @@ impl Shelf {
         let mut best = None;
         for (k, slot) in self.slots.iter().enumerate() {
             if let Some(label) = worth(*slot, card.inputs, &best) {
-                let part = Table {
-                    inputs: label.inputs,
-                    rows: stored(memory, k, label.inputs),
-                };
-                if let Some(proposal) = propose(pile, card, weight, &lists, label, &part) {
-                    best = Some(proposal);
-                }
+                let part = stored(memory, k, label.inputs);
+                best = propose(pile, card, weight, &lists, label, &part).or(best);
             }
         }
         best
@@ -100,12 +95,9 @@ impl Shelf {
     ) -> Result<Proposal, Refusal>
         ensures { Fitted R.RowKind.same (list_by P.Signature.count P.Signature.value) (Held self.now.slots memory.now) inputs card.now pile.now (fit_due (memory_due self.now.count (length memory.now)) inputs (length card.now)) result }
     {
-        Table::check(inputs, card)?;
+        let card = Table::new(inputs, card)?;
         self.check_memory(memory)?;
-        let card = Table { inputs, rows: card };
-        match self.best_fit(memory, &card, pile) {
-            Some(proposal) => Ok(proposal),
-            None => Err(Refusal::NoPartAgrees),
-        }
+        self.best_fit(memory, &card, pile)
+            .ok_or(Refusal::NoPartAgrees)
     }
 }

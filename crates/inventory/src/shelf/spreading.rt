@@ -26,16 +26,13 @@ impl Shelf {
         ensures { Outcome (spread_due (memory_due self.now.count (length memory.now)) (labelled number self.now.slots) number inputs (length card.now)) (Spreads R.RowKind.same (list_by P.Signature.count P.Signature.value) (Held self.now.slots memory.now) inputs card.now pile.now number) result }
     {
         check_number(number)?;
-        Table::check(inputs, card)?;
+        let card = Table::new(inputs, card)?;
         self.check_memory(memory)?;
         let slot = self.slot_of(number)?;
-        let held = self.slots[slot];
-        let Some(label) = held else { unreachable() };
-        let card = Table { inputs, rows: card };
-        let part = Table {
-            inputs: label.inputs,
-            rows: stored(memory, slot, label.inputs),
+        let Some(label) = self.slots[slot] else {
+            unreachable()
         };
+        let part = stored(memory, slot, label.inputs);
         Ok(spread_by(pile, &card, &part))
     }
 }

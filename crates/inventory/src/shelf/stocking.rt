@@ -15,7 +15,7 @@ use tables::Table;
 pub fn check_number(number: u32) -> Result<(), Refusal>
     ensures { Outcome (number_due number) (λ _. (1 ≤ number) × (number ≤ 9999)) result }
 {
-    if number == 0 || number > 9999 {
+    if !(1..=9999).contains(&number) {
         return Err(Refusal::NotAPartNumber);
     }
     Ok(())

@@ -1,18 +1,10 @@
-use Rattle.std.proofs.Common.{◌<◌, length, sym, refl, ◌∙◌, subst, arith, length-set}
-use Rattle.refusals.proofs.Dues.{past}
+use Rattle.std.proofs.Common.{◌<◌, length, sym, refl, subst, arith, length-set}
 use Rattle.inventory.proofs.Labels.{put_once, put_past}
 use Rattle.inventory.proofs.Writes.{rows_fit}
 use Rattle.inventory.proofs.shelf.Shelf.enter.Goals as goal
 
-pub store-requires : goal.store-requires
-store-requires g c =
-    let table = c.in_ok-check.ensures.1 in
-    let small = rows_fit c.args.inputs table.0 in
-    let size = table.1 in
-    let slot = c.in_ok-slot.ensures.1.0 in
-    let many = c.in_ok-check_memory.ensures.1 in
-    let few = c.args.self.now.few in
-    record { slot_few = omega arith; stretch_in = omega arith; rows_fit = omega arith }
+pub store-requires-clause-rows_fit : goal.store-requires-clause-rows_fit
+store-requires-clause-rows_fit g c = let table = c.in_ok-check.ensures.1 in omega (arith, table.1, rows_fit c.args.inputs table.0)
 
 pub invariant_of-self-2 : goal.invariant_of-self-2
 invariant_of-self-2 g c =
@@ -25,6 +17,6 @@ invariant_of-self-2 g c =
 pub returns : goal.returns
 returns g c =
     let room = c.in_ok-slot.ensures in (
-      past _ _ c.in_ok-check_number.ensures.0 ∙ past _ _ c.in_ok-check.ensures.0 ∙ past _ _ c.in_ok-check_memory.ensures.0 ∙ room.0,
+      rw (c.in_ok-check_number.ensures.0, c.in_ok-check.ensures.0, c.in_ok-check_memory.ensures.0) room.0,
       (c.in_ok-slot.slot, _, room.1.0, room.1.1, refl, refl, refl, refl, c.store.ensures),
     )
