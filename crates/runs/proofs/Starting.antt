@@ -1,11 +1,10 @@
 -- Playing on a shelf just opened.
-use Rattle.std.proofs.Common.{◌≡◌, ℕ, Bool, List, [], Ok, Result, ap, ◌∙◌, subst}
+use Rattle.std.proofs.Common.{◌≡◌, ℕ, Bool, List, [], Ok, Result, subst}
 use Rattle.refusals.specs.Due.{none}
 use Rattle.refusals.specs.declared.refusal.Refusal.{Refusal}
 use Rattle.ledger.specs.Ledger.{Call}
 use Rattle.inventory.specs.Stocking.{open_due, IsEmpty}
 use Rattle.inventory.specs.declared.shelf.Shelf.{Shelf}
-use Rattle.refusals.proofs.Dues.{past}
 use Rattle.runs.specs.Playing.{Played, Opened}
 use Rattle.runs.specs.declared.answer.Grant.{Grant}
 use Rattle.runs.proofs.Stock.{empty_holds}
@@ -17,4 +16,4 @@ pub opened : {R P : Type 0} (same : R → R → Bool) (list : P → ℕ → List
 opened same list memory calls answers slots shelf shelf' memory' answers' lawful empty played =
     let law = played.3 [] (empty_holds shelf.slots memory empty.1) in
     subst (λ n. Opened same list memory calls answers n (Ok shelf') memory' answers') empty.0
-    (past _ _ (ap open_due empty.0 ∙ lawful) ∙ played.0, played.1, played.2, law.0, law.1)
+    (rw (empty.0, lawful) (rw empty.0 at played.0), played.1, played.2, law.0, law.1)

@@ -42,12 +42,6 @@ module _ {R P : Type 0} (same : R → R → Bool) (list : P → ℕ → List R �
       λ parts h. subst (Stepped (refused k) parts) (sym (refuses parts h)) (refl, rw (shelf, kept) h),
     )
 
-  -- the same call and the same answer, said otherwise
-  pub leads_as : {call call' : Call R P} {answer answer' : Answer} (after : Shelf) (memory' : List R) → call' ≡ call → answer' ≡ answer
-      → Leads same list before memory call answer after memory' → Leads same list before memory call' answer' after memory'
-  leads_as {call} {answer' = answer'} after memory' asked tells leads =
-      subst (λ x. Leads same list before memory x answer' after memory') (sym asked) (subst (λ x. Leads same list before memory call x after memory') (sym tells) leads)
-
   module _ (long : length memory ≡ before.count * 1024) where
     pub enter_leads : (n inputs : ℕ) (rows : List R) (r : Result Unit Refusal) (after : Shelf) (memory' : List R)
         → Entered

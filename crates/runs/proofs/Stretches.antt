@@ -1,7 +1,8 @@
 -- The stretches of the slots after rows are written into one of them.
-use Rattle.std.proofs.Common.{◌≡◌, ℕ, ◌+◌, ◌-◌, ◌*◌, ◌^◌, ◌<◌, ◌≤◌, List, ◌++◌, length, take, drop, sym, ap, ◌∙◌, ⊎_elim, append_assoc, arith}
-use Rattle.std.proofs.lemmas.List.{drop_at, drop-drop, drop-take, length-append, length-take-le, take-append-le, take_at, take-take}
+use Rattle.std.proofs.Common.{◌≡◌, ℕ, ◌+◌, ◌-◌, ◌*◌, ◌^◌, ◌<◌, ◌≤◌, List, ◌++◌, length, take, drop, sym, refl, ap, ◌∙◌, ⊎_elim, arith}
+use Rattle.std.proofs.lemmas.List.{drop_at, drop-drop, drop-take, length-take-le}
 use Rattle.std.proofs.lemmas.Bool.{cases_lt}
+use Rattle.std.proofs.lemmas.Grind.{common_steps}
 use Rattle.inventory.specs.Slots.{front, written}
 use Rattle.inventory.proofs.Writes.{rows_fit}
 
@@ -18,15 +19,13 @@ module _ {X : Type 0} (m new : List X) where
     starts = length-take-le start m within
 
     drop_new : drop start later ≡ new ++ drop end m
-    drop_new = drop_at (take start m) (new ++ drop end m) start starts
+    drop_new = grind (arith, common_steps, starts)
 
     take_before : (n : ℕ) → n ≤ start → take n later ≡ take n m
-    take_before n le = take-append-le n (take start m) (new ++ drop end m) (omega (arith, starts)) ∙ take-take n start m le
+    take_before n le = grind (arith, common_steps, starts)
 
     drop_past : drop end later ≡ drop end m
-    drop_past =
-        ap (drop end) (sym (append_assoc (take start m) new (drop end m)))
-        ∙ drop_at (take start m ++ new) (drop end m) end (omega (arith, length-append (take start m) new, starts))
+    drop_past = sym (drop-drop (length new) start later) ∙ ap (drop (length new)) drop_new ∙ drop_at new (drop end m) (length new) refl
 
     drop_after : (n : ℕ) → end ≤ n → drop n later ≡ drop n m
     drop_after n le =
@@ -36,7 +35,7 @@ module _ {X : Type 0} (m new : List X) where
   -- the new rows lie in the stretch of slot k
   module _ (k : ℕ) (within : k * 1024 ≤ length m) where
     pub front_new : (n : ℕ) → length new ≡ 2 ^ n → front (written m (k * 1024) new) k n ≡ new
-    front_new n whole = ap (take (2 ^ n)) (drop_new (k * 1024) within) ∙ take_at new (drop (k * 1024 + length new) m) (2 ^ n) whole
+    front_new n whole = grind (arith, common_steps, drop_new)
 
     pub front_other : (j n : ℕ) → (j ≡ k → ⊥) → n ≤ 10 → length new ≤ 1024 → front (written m (k * 1024) new) j n ≡ front m j n
     front_other j n ne few short =

@@ -7,29 +7,10 @@ ghost use Rattle.runs.specs.Playing.{Played, Opened};
 
 use crate::answer::{Answer, Grant};
 use crate::call::Call;
-use inventory::{Proposal, Shelf};
+use inventory::Shelf;
 use refusals::Refusal;
 use rows::RowKind;
 use signatures::Signature;
-
-fn done(res: Result<(), Refusal>) -> Answer
-    ensures { told result ≡ answered (λ _. Done) res }
-{
-    res?;
-    Ok(Grant::Done)
-}
-
-fn proposed(res: Result<Proposal, Refusal>) -> Answer
-    ensures { told result ≡ answered Proposed res }
-{
-    Ok(Grant::Proposed(res?))
-}
-
-fn measured(res: Result<u32, Refusal>) -> Answer
-    ensures { told result ≡ answered Spread res }
-{
-    Ok(Grant::Spread(res?))
-}
 
 // One call on memory of the right length.
 fn obey<R: RowKind, P: Signature<R>>(
@@ -40,20 +21,26 @@ fn obey<R: RowKind, P: Signature<R>>(
     requires { length memory.old ≡ shelf.old.count * 1024 }
     ensures { Leads R.RowKind.same (list_by P.Signature.count P.Signature.value) shelf.old memory.old (said call.now) (told result) shelf.new memory.new }
 {
-    match call {
+    match *call {
         Call::Enter {
             number,
             inputs,
             rows,
-        } => done(shelf.enter(memory, *number, *inputs, rows)),
-        Call::Drop { number } => done(shelf.drop_part(memory, *number)),
-        Call::Fit { inputs, card, pile } => proposed(shelf.fit(memory, *inputs, card, *pile)),
+        } => shelf
+            .enter(memory, number, inputs, rows)
+            .map(|()| Grant::Done),
+        Call::Drop { number } => shelf.drop_part(memory, number).map(|()| Grant::Done),
+        Call::Fit { inputs, card, pile } => shelf
+            .fit(memory, inputs, card, pile)
+            .map(Grant::Proposed),
         Call::Spread {
             number,
             inputs,
             card,
             pile,
-        } => measured(shelf.spread(memory, *number, *inputs, card, *pile)),
+        } => shelf
+            .spread(memory, number, inputs, card, pile)
+            .map(Grant::Spread),
     }
 }
 

@@ -1,5 +1,5 @@
 use Rattle.runs.proofs.Stock.{empty_holds}
 use Rattle.runs.proofs.opening.opened_shelf_is_empty.Goals as goal
 
-pub returns-clause-empty : goal.returns-clause-empty
-returns-clause-empty g c = λ slots shelf memory empty. empty_holds shelf.slots memory empty.1
+pub returns : goal.returns
+returns g c = record { empty = λ slots shelf memory empty. empty_holds shelf.slots memory empty.1 }
