@@ -2,18 +2,19 @@
 
 mod kinds;
 
-pub use kinds::{drive_run, indistinct_run, on_off_run};
+pub use kinds::{run_on, same_rows_of_each_kind};
 
 #[cfg(test)]
 mod tests {
+    use super::run_on;
     use inventory::{Proposal, Shelf};
     use refusals::Refusal;
-    use rows::{Drive, OnOff, RowKind};
+    use rows::{Drive, Indistinct, OnOff, RowKind};
     use runs::{Answer, Call, Grant, play};
     use signatures::{Blank, Breakup, Cofactor, Pile, Refined, Signature};
     use std::process::Abort;
-    use std::slice;
     use std::test::Fail;
+    use std::{array, slice};
 
     const F: OnOff = OnOff::Off;
 
@@ -87,27 +88,21 @@ mod tests {
     }
 
     fn is_done(answer: Answer) -> bool {
-        match answer {
-            Ok(Grant::Done) => true,
-            _ => false,
-        }
+        matches!(answer, Ok(Grant::Done))
     }
 
     fn is_refused(answer: Answer, number: u8) -> bool {
-        refused(answer) == number
+        refused(answer) == Some(number)
     }
 
-    // The number of a refusal, or 0 where there is none.
-    fn refused<T: Drop>(res: Result<T, Refusal>) -> u8 {
-        match res {
-            Ok(_) => 0,
-            Err(reason) => reason.number(),
-        }
+    // The number of a refusal.
+    fn refused<T: Drop>(res: Result<T, Refusal>) -> Option<u8> {
+        res.err().map(Refusal::number)
     }
 
     fn proposal(answer: Answer) -> Result<Proposal, Fail> {
-        match answer? {
-            Grant::Proposed(proposal) => Ok(proposal),
+        match answer {
+            Ok(Grant::Proposed(proposal)) => Ok(proposal),
             _ => Err(Fail::new("no proposal")),
         }
     }
@@ -127,13 +122,11 @@ mod tests {
     }
 
     fn is_spread(rt: &impl Abort, answer: Answer, spread: u32) -> Result<(), Fail> {
-        match answer? {
-            Grant::Spread(k) => {
-                assert_eq!(rt; k, spread);
-                Ok(())
-            },
-            _ => Err(Fail::new("no spread")),
-        }
+        let Ok(Grant::Spread(ways)) = answer else {
+            return Err(Fail::new("no spread"));
+        };
+        assert_eq!(rt; ways, spread);
+        Ok(())
     }
 
     #[test]
@@ -188,11 +181,11 @@ mod tests {
         assert!(rt; is_refused(enter(&mut shelf, &mut memory, 9999, 11, &[F]), 3));
         assert!(rt; is_refused(enter(&mut shelf, &mut memory, 9999, 2, &[F]), 4));
         assert!(rt; is_done(enter(&mut shelf, &mut memory, 9999, 0, &[F])));
-        assert_eq!(rt; refused(shelf.enter(&mut short, 0, 0, &[F])), 2);
-        assert_eq!(rt; refused(shelf.enter(&mut short, 9999, 0, &[F])), 6);
-        assert_eq!(rt; refused(shelf.enter(&mut memory, 9999, 0, &[F])), 7);
-        assert_eq!(rt; refused(Shelf::open(0)), 6);
-        assert_eq!(rt; refused(Shelf::open(65)), 6);
+        assert_eq!(rt; refused(shelf.enter(&mut short, 0, 0, &[F])), Some(2));
+        assert_eq!(rt; refused(shelf.enter(&mut short, 9999, 0, &[F])), Some(6));
+        assert_eq!(rt; refused(shelf.enter(&mut memory, 9999, 0, &[F])), Some(7));
+        assert_eq!(rt; refused(Shelf::open(0)), Some(6));
+        assert_eq!(rt; refused(Shelf::open(65)), Some(6));
         Ok(())
     }
 
@@ -259,6 +252,90 @@ mod tests {
         is_spread(
             &rt,
             spread(&mut shelf, &mut memory, 9, 1, &[F, T], &Cofactor),
+            0,
+        )
+    }
+
+    // A part of two inputs is entered, asked for by a card, dropped, and dropped again.
+    fn four_calls<'a, R>(
+        part: &'a [R],
+        card: &'a [R],
+        pile: &'a Cofactor,
+    ) -> [Call<'a, R, Cofactor>; 4] {
+        [
+            Call::Enter {
+                number: 3,
+                inputs: 2,
+                rows: part,
+            },
+            Call::Fit {
+                inputs: 2,
+                card,
+                pile,
+            },
+            Call::Drop { number: 3 },
+            Call::Drop { number: 3 },
+        ]
+    }
+
+    fn check_run<R: RowKind, A: Abort, const SLOTS: usize>(
+        rt: &A,
+        memory: &mut [R],
+        part: &[R],
+        card: &[R],
+        pins: &[u8],
+        struck: usize,
+    ) -> Result<(), Fail> {
+        let mut answers: [Answer; 4] = array::from_fn(|_| Ok(Grant::Done));
+        let shelf = run_on::<R, Cofactor, SLOTS>(
+            memory,
+            &four_calls(part, card, &Cofactor),
+            &mut answers,
+        )?;
+        assert_eq!(rt; shelf.slots(), SLOTS);
+        let [entered, proposed, dropped, missing] = answers;
+        assert!(rt; is_done(entered));
+        is_fit(rt, proposed, 3, pins, struck)?;
+        assert!(rt; is_done(dropped));
+        assert!(rt; is_refused(missing, 9));
+        Ok(())
+    }
+
+    #[test]
+    fn on_off_rows_on_one_slot(rt: HostRuntime) -> Result<(), Fail> {
+        check_run::<OnOff, _, 1>(
+            &rt,
+            &mut [F; 1024],
+            &[F, F, T, F],
+            &[F, T, F, F],
+            &[1, 0],
+            2,
+        )
+    }
+
+    #[test]
+    fn drives_on_sixteen_slots(rt: HostRuntime) -> Result<(), Fail> {
+        let rest = Drive::new(0, 4)?;
+        let still = Drive::new(0, 99)?;
+        let left = Drive::new(1, 4)?;
+        check_run::<Drive, _, 16>(
+            &rt,
+            &mut [rest; 16384],
+            &[still, left, rest, rest],
+            &[rest, rest, left, still],
+            &[1, 0],
+            2,
+        )
+    }
+
+    #[test]
+    fn indistinct_rows_on_sixty_four_slots(rt: HostRuntime) -> Result<(), Fail> {
+        check_run::<Indistinct, _, 64>(
+            &rt,
+            &mut [Indistinct(0); 65536],
+            &[Indistinct(1), Indistinct(2), Indistinct(3), Indistinct(4)],
+            &[Indistinct(5); 4],
+            &[0, 1],
             0,
         )
     }
