@@ -2,6 +2,7 @@
 use Rattle.std.proofs.Common.{◌≡◌, ℕ, ◌+◌, ◌*◌, ◌^◌, ◌<◌, ◌≤◌, Bool, true, ◌⊎◌, List, length, get_or, drop, Some, None, Option, sym, refl, ap, ◌∙◌, subst, inl, inr, ⊎_elim, arith, length-drop, length-take-le}
 use Rattle.std.specs.Option.{option_or}
 use Rattle.std.proofs.lemmas.List.{get_or_default}
+use Rattle.std.proofs.lemmas.Option.{none-some}
 use Rattle.std.proofs.lemmas.Bool.{cases_eq, cases_lt}
 use Rattle.tables.specs.Wirings.{pin}
 use Rattle.ledger.specs.Ledger.{Part}
@@ -19,9 +20,6 @@ use Rattle.inventory.proofs.Writes.{rows_fit}
 same_proposal : (p q : Proposal) → Some p ≡ Some q → p ≡ q
 same_proposal p q e = cc
 
-none_some : (p : Proposal) → ◌≡◌ {A = Option Proposal} None (Some p) → ⊥
-none_some p e = let z : ◌≡◌ {A = ℕ} 0 1 = cc in omega arith
-
 module _ {R P : Type 0} (same : R → R → Bool) (list : P → ℕ → List R → ℕ → List ℕ) (inputs : ℕ) (card : List R) (pile : P) where
   abbrev Over : (Part R → Type 0) → Option Proposal → Type 0
   Over standing best = Best same list standing inputs card pile best
@@ -36,7 +34,7 @@ module _ {R P : Type 0} (same : R → R → Bool) (list : P → ℕ → List R �
     pub best_kept : (best : Option Proposal) → Over before best
         → ((other : Part R) (v : ℕ → ℕ) → here other → ServesUnder before other v → (p : Proposal) × (best ≡ Some p) × (p.number < other.number)) → Over after best
     best_kept None none worse = λ part w stands serves.
-        ⊎_elim (λ b. none part w b serves) (λ h. let o = worse part w h serves in none_some o.0 o.1) (split part stands)
+        ⊎_elim (λ b. none part w b serves) (λ h. let o = worse part w h serves in none-some o.0 o.1) (split part stands)
     best_kept (Some p) found worse =
         let q = found.1 in (
           found.0,

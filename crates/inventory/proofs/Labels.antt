@@ -1,6 +1,7 @@
 -- Slots and what their labels say.
-use Rattle.std.proofs.Common.{◌≡◌, ℕ, zero, suc, ◌<◌, ◌≤◌, true, false, List, length, get_or, set, replicate, is_some, Some, None, Option, sym, refl, ap, ◌∙◌, ⊎_elim, arith, get_or-set_other, get_or-set_same}
+use Rattle.std.proofs.Common.{◌≡◌, ℕ, ◌<◌, ◌≤◌, true, false, List, length, get_or, set, replicate, is_some, Some, None, Option, sym, refl, ap, ◌∙◌, ⊎_elim, arith, get_or-set_other, get_or-set_same}
 use Rattle.std.proofs.lemmas.Bool.{true≢false, false≢true, both_ways, cases_eq, eq-eqb, eqb-true}
+use Rattle.std.proofs.lemmas.Grind.{common_steps}
 use Rattle.inventory.specs.Slots.{has, share, labelled}
 use Rattle.inventory.specs.declared.label.Label.{Label}
 use Rattle.inventory.proofs.Scans.{any_here}
@@ -23,9 +24,7 @@ sharing None t n hs ht = absurd (false≢true hs)
 sharing (Some label) t n hs ht = ap (λ m. has m t) (eqb-true label.number n hs) ∙ ht
 
 pub all_free : (n k : ℕ) → ◌≡◌ {A = Option Label} (get_or (replicate n None) k None) None
-all_free zero k = refl
-all_free (suc n) zero = refl
-all_free (suc n) (suc k) = all_free n k
+all_free n k = grind (arith, common_steps)
 
 pub unshared : (s t : Option Label) → s ≡ None → share s t ≡ true → ⊥
 unshared s t e on = false≢true (sym (ap (λ u. share u t) e) ∙ on)
@@ -63,7 +62,7 @@ module _ (slots : List (Option Label)) (slot : ℕ) (label : Label) (within : sl
       (cases_eq j slot)
 
 pub put_past : (slots : List (Option Label)) (slot count : ℕ) (x : Option Label) → slot < count → ((k : ℕ) → count ≤ k → get_or slots k None ≡ None) → (k : ℕ) → count ≤ k → get_or (set slots slot x) k None ≡ None
-put_past slots slot count x lt past k le = get_or-set_other slots slot k x None (omega arith) ∙ past k le
+put_past slots slot count x lt past k le = grind (arith, common_steps, past k le)
 
 pub same_label : (a b : Label) → Some a ≡ Some b → a ≡ b
 same_label a b e = cc

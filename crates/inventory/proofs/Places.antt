@@ -1,13 +1,14 @@
 -- The part in a slot.
-use Rattle.std.proofs.Common.{◌≡◌, ℕ, ◌≤◌, true, List, get_or, Some, None, Option, sym, refl, ap, ◌∙◌, arith}
+use Rattle.std.proofs.Common.{◌≡◌, ℕ, ◌≤◌, true, List, get_or, Some, None, Option, sym, refl, ap, ◌∙◌}
 use Rattle.std.proofs.lemmas.Bool.{eqb-true}
+use Rattle.std.proofs.lemmas.Option.{none-some}
 use Rattle.ledger.specs.Ledger.{Part}
 use Rattle.inventory.specs.Slots.{has, front, At}
 use Rattle.inventory.specs.declared.label.Label.{Label}
 use Rattle.inventory.proofs.Labels.{has_own, same_label}
 
 pub not_free : (slot : Option Label) (label : Label) → slot ≡ None → slot ≡ Some label → ⊥
-not_free slot label free used = let z : ◌≡◌ {A = ℕ} 0 1 = cc in omega arith
+not_free slot label free used = none-some label (sym free ∙ used)
 
 module _ {R : Type 0} where
   -- the part that a label in slot k stands for
@@ -19,10 +20,7 @@ module _ {R : Type 0} where
     at_label label e = record { label = label; slot = e; number = refl; inputs = refl; rows = refl }
 
     pub at_is : (p : Part R) (a : At slots memory k p) → p ≡ part_at memory k a.label
-    at_is p a =
-        ap (λ n. record { number = n; inputs = p.inputs; rows = p.rows }) a.number
-        ∙ ap (λ i. record { number = a.label.number; inputs = i; rows = p.rows }) a.inputs
-        ∙ ap (λ r. record { number = a.label.number; inputs = a.label.inputs; rows = r }) a.rows
+    at_is p a = rw (← a.rows, ← a.inputs, ← a.number)
 
     -- a slot has one part
     pub one_at : (p q : Part R) → At slots memory k p → At slots memory k q → p ≡ q

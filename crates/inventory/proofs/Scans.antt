@@ -2,7 +2,7 @@
 use Rattle.std.proofs.Common.{◌≡◌, ℕ, zero, suc, ◌+◌, ◌<◌, ◌≤◌, Bool, true, false, cond, List, [], ◌∷◌, length, get_or, take, is_some, Some, None, count_by, position, not, ltb, ◌||◌, sym, refl, ap, ◌∙◌, ⊎_elim, arith}
 use Rattle.std.specs.List.{position_or_len}
 use Rattle.std.proofs.lemmas.List.Sums.{sum_by-cons, count_by-le-length}
-use Rattle.std.proofs.lemmas.Bool.{both_ways, lt-ltb, or_cases, or_left, or_right}
+use Rattle.std.proofs.lemmas.Bool.{both_ways, false≢true, lt-ltb, or_cases, or_left, or_right}
 use Rattle.ledger.specs.Ledger.{any}
 
 abbrev one_if : Bool → ℕ
@@ -19,7 +19,7 @@ module _ {X : Type 0} (test : X → Bool) where
   any_here (x ∷ xs) (suc k) d off on = or_right (test x) (any test xs) (any_here xs k d off on)
 
   pub any_place : (xs : List X) (d : X) → any test xs ≡ true → (k : ℕ) × (k < length xs) × (test (get_or xs k d) ≡ true)
-  any_place [] d on = absurd (let z : ◌≡◌ {A = ℕ} 0 1 = cc in omega arith)
+  any_place [] d on = absurd (false≢true on)
   any_place (x ∷ xs) d on =
       ⊎_elim
       (λ here. (0, omega arith, here))

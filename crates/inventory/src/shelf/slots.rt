@@ -6,16 +6,12 @@ use crate::label::Label;
 use crate::shelf::Shelf;
 use refusals::Refusal;
 
-fn has_number(slot: &Option<Label>, number: u32) -> bool
-    ensures { result ≡ has number slot.now }
-{
-    slot.is_some_and(|label| label.number == number)
-}
-
 fn find(slots: &[Option<Label>], number: u32) -> Option<usize>
     ensures { result ≡ position (has number) slots.now }
 {
-    slots.iter().position(|slot| has_number(slot, number))
+    slots
+        .iter()
+        .position(|slot| slot.is_some_and(|label| label.number == number))
 }
 
 fn find_free(slots: &[Option<Label>]) -> Option<usize>
