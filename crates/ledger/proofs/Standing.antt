@@ -1,6 +1,7 @@
 -- What stands in a list of parts, where each number stands once.
 use Rattle.std.proofs.Common.{◌≡◌, ℕ, ◌+◌, Bool, true, false, cond, not, eqb, List, [], ◌∷◌, length, filter, sym, refl, ap, ◌∙◌, subst, inl, inr, ⊎_elim, arith}
-use Rattle.std.proofs.lemmas.Bool.{cases_Bool, cond-true, eq-eqb, eqb-true, eqb-false, false≢true, ne_eqb, not-true, or_cases, or_from, or_left, or_parts, or_right}
+use Rattle.std.proofs.lemmas.Bool.{cases_Bool, eq-eqb, eqb-true, eqb-false, false≢true, ne_eqb, not-true, or_cases, or_left, or_parts, or_right}
+use Rattle.std.proofs.lemmas.Grind.{common_steps}
 use Rattle.lists.specs.Counting.{Mem}
 use Rattle.lists.proofs.Members.{kept_mem, mem_kept}
 use Rattle.ledger.specs.Ledger.{Part, any, stands, without}
@@ -31,17 +32,15 @@ module _ {X : Type 0} (test : X → Bool) where
   any_kept keep (y ∷ ys) off =
       let both = or_parts (test y) (any test ys) off in
       let rest = any_kept keep ys both.1 in
-      elim (keep y) as (λ b. any test (cond b (y ∷ filter keep ys) (filter keep ys)) ≡ false) [
-        | true ↦ or_from (test y) (any test (filter keep ys)) both.0 rest
-        | false ↦ rest
-      ]
+      grind (arith, common_steps)
 
   -- where none passes, all are kept that do not pass
   pub all_kept : (xs : List X) → any test xs ≡ false → filter (λ x. not (test x)) xs ≡ xs
   all_kept [] off = refl
   all_kept (y ∷ ys) off =
       let both = or_parts (test y) (any test ys) off in
-      cond-true (not (test y)) _ _ (ap not both.0) ∙ ap (λ zs. y ∷ zs) (all_kept ys both.1)
+      let rest = all_kept ys both.1 in
+      grind (arith, common_steps)
 
 module _ {R : Type 0} where
   -- the tests by which a number stands, and by which the parts of other numbers are kept

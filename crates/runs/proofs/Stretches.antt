@@ -42,8 +42,6 @@ module _ {X : Type 0} (m new : List X) where
         let fits = rows_fit n few in
         let then = written m (k * 1024) new in
         ⊎_elim
-        (λ lower.
-        let kept = take_before (k * 1024) within (j * 1024 + 2 ^ n) (omega arith) in
-        sym (drop-take (j * 1024) (2 ^ n) then) ∙ ap (drop (j * 1024)) kept ∙ drop-take (j * 1024) (2 ^ n) m)
+        (λ lower. let kept = take_before (k * 1024) within (j * 1024 + 2 ^ n) (omega arith) in rw (← drop-take (j * 1024) (2 ^ n) then, kept, drop-take (j * 1024) (2 ^ n) m))
         (λ higher. let past : k < j = omega arith in ap (take (2 ^ n)) (drop_after (k * 1024) within (j * 1024) (omega arith)))
         (cases_lt j k)

@@ -1,6 +1,7 @@
 -- Calls played one after the other: one call more, and all of them.
-use Rattle.std.proofs.Common.{◌≡◌, ℕ, ◌+◌, ◌<◌, Bool, List, [], ◌∷◌, ◌++◌, map, length, get_or, take, set, Option, sym, refl, ap, ◌∙◌, subst, arith}
-use Rattle.std.proofs.lemmas.List.{get_or-map, length-map, map_push, take_all, take_more, take_more_set}
+use Rattle.std.proofs.Common.{◌≡◌, ℕ, ◌+◌, ◌<◌, Bool, List, [], ◌∷◌, ◌++◌, map, length, get_or, take, set, Option, refl, ap, ◌∙◌, subst, arith}
+use Rattle.std.proofs.lemmas.List.{length-map, map_push, take_all, take_more, take_more_set}
+use Rattle.std.proofs.lemmas.Grind.{common_steps}
 use Rattle.ledger.specs.Ledger.{Part, Call, due, after, ledger_from}
 use Rattle.ledger.specs.Law.{Answer, Right, Answered}
 use Rattle.inventory.specs.declared.label.Label.{Label}
@@ -28,9 +29,7 @@ module _ {R P : Type 0} (same : R → R → Bool) (list : P → ℕ → List R �
   module _ {C A : Type 0} (said : C → Call R P) (told : A → Answer) (parts : List (Part R)) (calls : List C) where
     asked_more : (k : ℕ) (call : C) → k < length calls → call ≡ get_or calls k call
         → take (k + 1) (map said calls) ≡ take k (map said calls) ++ said call ∷ []
-    asked_more k call lt is =
-        take_more (map said calls) k (said call) (rw length-map lt)
-        ∙ ap (λ c. take k (map said calls) ++ c ∷ []) (get_or-map said calls k call (said call) lt ∙ ap said (sym is))
+    asked_more k call lt is = grind (arith, common_steps, take_more (map said calls) k (said call))
 
     told_more : (answers : List A) (k : ℕ) (answer : A) → k < length answers
         → map told (take (k + 1) (set answers k answer)) ≡ map told (take k answers) ++ told answer ∷ []
