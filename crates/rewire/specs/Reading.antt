@@ -1,19 +1,13 @@
-use Rattle.std.specs.Prelude.{◌≡◌, ℕ, List, map, Some, None, Ok, Err, vec_items, Option, Result, Vec, ◌≢◌}
+use Rattle.std.specs.Prelude.{◌≡◌, ℕ, ◌^◌, ◌<◌, ◌≤◌, ◌⊎◌, List, map, length, Ok, Err, vec_items, Result, Vec, ◌≢◌}
 use Rattle.std.specs.declared.alloc.Global.{Global}
+use Rattle.refusals.specs.declared.refusal.Refusal.{Refusal}
+use Rattle.refusals.specs.Numbers.{number}
 use Rattle.rows.specs.declared.on_off.OnOff.{OnOff}
-use Rattle.rows.specs.declared.on_off.OnOff.TheVariants.{Off, On}
+use Rattle.tables.specs.declared.table.Table.{Table}
+use Rattle.typed_rows.specs.Reading.{digit}
 use Rattle.rewire.specs.declared.failure.Failure.{Failure}
 use Rattle.rewire.specs.declared.failure.Side.{Side}
 use Rattle.rewire.specs.declared.failure.Failure.TheVariants.{Usage, NotRows, Refused, Memory, Output}
-
--- the digit of a row
-abbrev pub digit : OnOff → ℕ
-digit Off = 48
-digit On = 49
-
-abbrev pub IsRow : ℕ → Option OnOff → Type 0
-IsRow byte (Some row) = digit row ≡ byte
-IsRow byte None = (row : OnOff) → digit row ≢ byte
 
 abbrev pub ReadError : Side → List ℕ → Failure → Type 0
 ReadError side text Usage = ⊥
@@ -26,3 +20,21 @@ ReadError side text Output = ⊥
 abbrev pub Read : Side → List ℕ → Result (Vec OnOff Global) Failure → Type 0
 Read side text (Ok rows) = text ≡ map digit (vec_items rows)
 Read side text (Err failure) = ReadError side text failure
+
+-- so many rows are refused as a table: more than 1,024 with 3, and others that are 2^n for no n with 4
+abbrev pub NoTable : ℕ → Refusal → Type 0
+NoTable rows refusal =
+    ((2 ^ 10 < rows) × (number refusal ≡ 3))
+    ⊎ ((rows ≤ 2 ^ 10) × ((n : ℕ) → rows ≢ 2 ^ n) × (number refusal ≡ 4))
+
+abbrev pub SizeError : Side → ℕ → Failure → Type 0
+SizeError side rows Usage = ⊥
+SizeError side rows (NotRows s) = ⊥
+SizeError side rows (Refused s refusal) = (s ≡ side) × NoTable rows refusal
+SizeError side rows Memory = ⊥
+SizeError side rows Output = ⊥
+
+-- the table of these rows; the side is refused where there is none
+abbrev pub ReadTable : Side → List OnOff → Result (Table OnOff) Failure → Type 0
+ReadTable side rows (Ok table) = (table.inputs ≤ 10) × (length rows ≡ 2 ^ table.inputs) × (table.rows.now ≡ rows)
+ReadTable side rows (Err failure) = SizeError side (length rows) failure

@@ -1,33 +1,21 @@
 #![tactic(auto)]
 
-ghost use Rattle.std.specs.Prelude.{◌≡◌, ◌^◌, ◌≤◌, length, IfOk};
-
+mod comparison;
 mod failure;
-mod reading;
+mod request;
+mod typed;
 
+use comparison::Comparison;
 use failure::{Failure, Side};
-use fitting::{spread_by, struck_by, wiring_by};
-use reading::{inputs_for, rows_from};
+use request::{Request, USAGE};
 use rows::OnOff;
 use signatures::{Breakup, Cofactor, Pile, Refined};
 use std::env;
 use std::process::ExitCode;
 use tables::{Table, Wiring};
+use typed::{sized, typed};
 
-const USAGE: &str = "usage: rewire CARD PART
-
-Finds which pin of a part each input of a card goes to.
-
-CARD and PART are the rows of two truth tables, as digits 0 and 1, row 0 first.
-In row r, input i has the value of bit i of r, so a table of n inputs has 2^n rows; n is at most 10.
-
-example: rewire 00110101 00011011";
-
-fn show(rt: &HostRuntime, found: Option<Wiring>) -> Result<(), Failure> {
-    let Some(wiring) = found else {
-        println!(rt; "no wiring agrees in every row")?;
-        return Ok(());
-    };
+fn show_wiring(rt: &HostRuntime, wiring: &Wiring) -> Result<(), Failure> {
     println!(rt; "the first wiring that agrees in every row:")?;
     for (input, pin) in wiring.pins().iter().enumerate() {
         println!(rt; "card input {input} -> pin {pin}")?;
@@ -35,66 +23,46 @@ fn show(rt: &HostRuntime, found: Option<Wiring>) -> Result<(), Failure> {
     Ok(())
 }
 
-// The number of inputs of a table with these rows.
-fn sized(side: Side, rows: &[OnOff]) -> Result<usize, Failure>
-    ensures { IfOk result (λ n. (n ≤ 10) × (length rows.now ≡ 2 ^ n)) }
-{
-    let inputs = inputs_for(rows.len());
-    match Table::check(inputs, rows) {
-        Ok(()) => Ok(inputs),
-        Err(refusal) => Err(Failure::Refused(side, refusal)),
+fn show(
+    rt: &HostRuntime,
+    card: &Table<OnOff>,
+    part: &Table<OnOff>,
+    found: &Comparison,
+) -> Result<(), Failure> {
+    println!(rt; "card: {} inputs, {} rows", card.inputs, card.rows.len())?;
+    println!(rt; "part: {} inputs, {} rows", part.inputs, part.rows.len())?;
+    println!(rt;
+        "pairs of input and pin that signatures tell apart: {}; spread: {}",
+        found.struck, found.spread
+    )?;
+    match &found.wiring {
+        Some(wiring) => show_wiring(rt, wiring),
+        None => Ok(println!(rt; "no wiring agrees in every row")?),
     }
 }
 
 fn rewire(rt: &HostRuntime, card: &str, part: &str) -> Result<(), Failure> {
-    let card_rows = rows_from(rt.alloc(), Side::Card, card)?;
-    let part_rows = rows_from(rt.alloc(), Side::Part, part)?;
-    let card = card_rows.as_slice();
-    let part = part_rows.as_slice();
-    let card = Table {
-        inputs: sized(Side::Card, card)?,
-        rows: card,
-    };
-    let part = Table {
-        inputs: sized(Side::Part, part)?,
-        rows: part,
-    };
-    println!(rt; "card: {} inputs, {} rows", card.inputs, card.rows.len())?;
-    println!(rt; "part: {} inputs, {} rows", part.inputs, part.rows.len())?;
+    let card_rows = typed(rt.alloc(), Side::Card, card)?;
+    let part_rows = typed(rt.alloc(), Side::Part, part)?;
+    let card = sized(Side::Card, card_rows.as_slice())?;
+    let part = sized(Side::Part, part_rows.as_slice())?;
     let pile = Pile(Cofactor, Pile(Breakup, Refined(Cofactor)));
-    let struck = struck_by(&pile, &card, &part);
-    let open = spread_by(&pile, &card, &part);
-    println!(rt; "pairs of input and pin that signatures tell apart: {struck}; spread: {open}")?;
-    show(rt, wiring_by(&pile, &card, &part))
+    show(rt, &card, &part, &Comparison::of(&pile, &card, &part))
 }
 
 fn run(rt: &HostRuntime) -> Result<(), Failure> {
-    let mut args = env::args(rt)?.skip(1);
-    let Some(first) = args.next() else {
-        return Err(Failure::Usage);
-    };
-    let Some(second) = args.next() else {
-        if first.as_str() == "--help" {
-            println!(rt; "{USAGE}")?;
-            return Ok(());
-        }
-        return Err(Failure::Usage);
-    };
-    if args.next().is_some() {
-        return Err(Failure::Usage);
+    let args: Vec<String> = env::args(rt)?.skip(1).collect(rt.alloc())?;
+    match Request::of(args.as_slice()) {
+        Some(Request::Match { card, part }) => rewire(rt, card, part),
+        Some(Request::Help) => Ok(println!(rt; "{USAGE}")?),
+        None => Err(Failure::Usage),
     }
-    rewire(rt, &first, &second)
 }
 
 fn main(rt: HostRuntime) -> ExitCode {
-    match run(&rt) {
-        Ok(()) => return ExitCode::SUCCESS,
-        Err(Failure::Usage) => {
-            let _ = eprintln!(rt; "{USAGE}");
-        }
-        Err(failure) => {
-            let _ = eprintln!(rt; "rewire: {failure}");
-        }
-    }
+    let Err(failure) = run(&rt) else {
+        return ExitCode::SUCCESS;
+    };
+    let _ = eprintln!(rt; "{failure}");
     ExitCode::FAILURE
 }

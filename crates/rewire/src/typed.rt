@@ -1,0 +1,28 @@
+ghost use Rattle.rewire.specs.Reading.{Read, ReadTable};
+
+use crate::failure::{Failure, Side};
+use refusals::Refusal;
+use rows::OnOff;
+use std::alloc::Global;
+use tables::Table;
+use typed_rows::{RowsError, inputs_for, rows_from};
+
+// The rows that were typed on this side.
+pub fn typed(heap: Global, side: Side, text: &str) -> Result<Vec<OnOff>, Failure>
+    ensures { Read side text.now result }
+{
+    rows_from(heap, text).map_err(|error| match error {
+        RowsError::NotDigits => Failure::NotRows(side),
+        RowsError::OutOfMemory => Failure::Memory,
+    })
+}
+
+// The table of these rows, with the number of inputs that so many rows ask for.
+pub fn sized(side: Side, rows: &[OnOff]) -> Result<Table<'_, OnOff>, Failure>
+    ensures { ReadTable side rows.now result }
+{
+    let Some(inputs) = inputs_for(rows.len()) else {
+        return Err(Failure::Refused(side, Refusal::TooManyInputs));
+    };
+    Table::new(inputs, rows).map_err(|refusal| Failure::Refused(side, refusal))
+}
