@@ -1,2 +1,4 @@
 pub mod Reading
+pub mod Requests
 pub mod Asking
+pub mod Texts

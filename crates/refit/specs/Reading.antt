@@ -1,20 +1,12 @@
-use Rattle.std.specs.Prelude.{◌≡◌, ℕ, ◌^◌, ◌<◌, ◌≤◌, List, map, Some, None, Ok, Err, vec_items, vec_len, Option, Result, Vec, ◌≢◌}
+use Rattle.std.specs.Prelude.{◌≡◌, ℕ, ◌^◌, ◌<◌, ◌≤◌, ◌-◌, List, [], map, length, slice_index_or, All, Ok, Err, vec_items, vec_len, Result, Vec, ◌≢◌}
 use Rattle.std.specs.declared.alloc.Global.{Global}
 use Rattle.rows.specs.declared.on_off.OnOff.{OnOff}
-use Rattle.rows.specs.declared.on_off.OnOff.TheVariants.{Off, On}
+use Rattle.typed_rows.specs.Reading.{digit}
 use Rattle.refit.specs.declared.failure.Failure.{Failure}
 use Rattle.refit.specs.declared.failure.Side.{Side}
+use Rattle.refit.specs.declared.failure.Side.TheVariants.{Card, Part}
 use Rattle.refit.specs.declared.typed.Typed.{Typed}
 use Rattle.refit.specs.declared.failure.Failure.TheVariants.{Usage, NotRows, CardRefused, Memory, Output}
-
--- the digit of a row
-abbrev pub digit : OnOff → ℕ
-digit Off = 48
-digit On = 49
-
-abbrev pub IsRow : ℕ → Option OnOff → Type 0
-IsRow byte (Some row) = digit row ≡ byte
-IsRow byte None = (row : OnOff) → digit row ≢ byte
 
 abbrev pub ReadError : Side → List ℕ → Failure → Type 0
 ReadError side text Usage = ⊥
@@ -22,11 +14,6 @@ ReadError side text (NotRows s) = (s ≡ side) × ((rows : List OnOff) → text 
 ReadError side text (CardRefused r) = ⊥
 ReadError side text Memory = Unit {0}
 ReadError side text Output = ⊥
-
--- the rows that the text spells; a text that spells none is refused, and any text may find no memory
-abbrev pub Read : Side → List ℕ → Result (Vec OnOff Global) Failure → Type 0
-Read side text (Ok rows) = text ≡ map digit (vec_items rows)
-Read side text (Err failure) = ReadError side text failure
 
 -- n is the least number of inputs for so many rows, or 11 where ten are not enough
 abbrev pub Sized : ℕ → ℕ → Type 0
@@ -36,3 +23,22 @@ Sized rows n = (n ≤ 11) × ((k : ℕ) → k < n → 2 ^ k < rows) × (n ≤ 10
 abbrev pub ReadTable : Side → List ℕ → Result Typed Failure → Type 0
 ReadTable side text (Ok table) = (text ≡ map digit (vec_items table.rows)) × Sized (vec_len table.rows) table.inputs
 ReadTable side text (Err failure) = ReadError side text failure
+
+-- the text that a table was typed as
+abbrev pub spelled : Typed → List ℕ
+spelled table = map digit (vec_items table.rows)
+
+abbrev pub PartsError : List (List ℕ) → Failure → Type 0
+PartsError texts Usage = ⊥
+PartsError texts (NotRows Card) = ⊥
+PartsError texts (NotRows (Part n)) =
+    (1 ≤ n) × (n ≤ length texts) × ((rows : List OnOff) → slice_index_or texts (n - 1) [] ≢ map digit rows)
+PartsError texts (CardRefused r) = ⊥
+PartsError texts Memory = Unit {0}
+PartsError texts Output = ⊥
+
+-- the tables that the texts spell, one for each; text n, counted from 1, may be named as one that spells none
+abbrev pub ReadParts : List (List ℕ) → Result (Vec Typed Global) Failure → Type 0
+ReadParts texts (Ok parts) =
+    (map spelled (vec_items parts) ≡ texts) × All (λ part. Sized (vec_len part.rows) part.inputs) (vec_items parts)
+ReadParts texts (Err failure) = PartsError texts failure

@@ -1,6 +1,8 @@
-ghost use Rattle.std.specs.Prelude.{◌≡◌};
+ghost use Rattle.std.specs.Prelude.{◌≡◌, Some};
 ghost use Rattle.refit.specs.declared.failure.Failure.TheVariants.{Memory, Output};
+ghost use Rattle.refit.specs.Texts.{side_text, failure_text};
 
+use crate::request::USAGE;
 use refusals::Refusal;
 use std::alloc::{AllocError, AllocFailed};
 use std::{fmt, io};
@@ -47,28 +49,33 @@ impl From<io::Error> for Failure {
 }
 
 impl fmt::Display for Side {
+    ghost output = { λ side. Some (side_text side) };
+
     fn fmt<W: fmt::Write>(&self, f: &mut fmt::Formatter<W>) -> fmt::Result {
-        match *self {
+        match self {
             Side::Card => write!(f, "the card"),
             Side::Part(number) => write!(f, "part {number}"),
         }
     }
 }
 
+// What stands on standard error.
 impl fmt::Display for Failure {
+    ghost output = { λ failure. Some (failure_text failure) };
+
     fn fmt<W: fmt::Write>(&self, f: &mut fmt::Formatter<W>) -> fmt::Result {
         match self {
-            Failure::Usage => write!(f, "takes a card and 1 to 64 parts"),
+            Failure::Usage => write!(f, "{USAGE}"),
             Failure::NotRows(side) => write!(
                 f,
-                "rows are digits 0 and 1, and those of {side} are not"
+                "refit: rows are digits 0 and 1, and those of {side} are not"
             ),
             Failure::CardRefused(refusal) => {
                 let number = refusal.number();
-                write!(f, "the card is refused with {number}: {refusal}")
+                write!(f, "refit: the card is refused with {number}: {refusal}")
             }
-            Failure::Memory => write!(f, "out of memory"),
-            Failure::Output => write!(f, "cannot read the arguments or write the answer"),
+            Failure::Memory => write!(f, "refit: out of memory"),
+            Failure::Output => write!(f, "refit: cannot read the arguments or write the answer"),
         }
     }
 }

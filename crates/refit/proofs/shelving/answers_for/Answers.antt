@@ -5,8 +5,8 @@ use Rattle.runs.specs.Transcript.{said}
 use Rattle.refit.proofs.Asked.{answered_all}
 use Rattle.refit.proofs.shelving.answers_for.Goals as goal
 
-pub returns-in-Ok : goal.returns-in-Ok
-returns-in-Ok g c =
+pub returns-in-Ok-clause-answered : goal.returns-in-Ok-clause-answered
+returns-in-Ok-clause-answered g c =
     let calls = c.as_slice.result.now in
     let slice = c.as_slice.ensures.value in
     let count = length-map calls said in
