@@ -6,14 +6,12 @@ mod request;
 mod typed;
 
 use comparison::Comparison;
-use failure::{Failure, Side};
+use failure::Failure;
 use request::{Request, USAGE};
-use rows::OnOff;
 use signatures::{Breakup, Cofactor, Pile, Refined};
 use std::env;
 use std::process::ExitCode;
-use tables::{Table, Wiring};
-use typed::{sized, typed};
+use tables::Wiring;
 
 fn show_wiring(rt: &HostRuntime, wiring: &Wiring) -> Result<(), Failure> {
     println!(rt; "the first wiring that agrees in every row:")?;
@@ -23,14 +21,15 @@ fn show_wiring(rt: &HostRuntime, wiring: &Wiring) -> Result<(), Failure> {
     Ok(())
 }
 
-fn show(
-    rt: &HostRuntime,
-    card: &Table<OnOff>,
-    part: &Table<OnOff>,
-    found: &Comparison,
-) -> Result<(), Failure> {
-    println!(rt; "card: {} inputs, {} rows", card.inputs, card.rows.len())?;
-    println!(rt; "part: {} inputs, {} rows", part.inputs, part.rows.len())?;
+fn show(rt: &HostRuntime, found: &Comparison) -> Result<(), Failure> {
+    println!(rt;
+        "card: {} inputs, {} rows",
+        found.card.inputs, found.card.rows
+    )?;
+    println!(rt;
+        "part: {} inputs, {} rows",
+        found.part.inputs, found.part.rows
+    )?;
     println!(rt;
         "pairs of input and pin that signatures tell apart: {}; spread: {}",
         found.struck, found.spread
@@ -41,19 +40,13 @@ fn show(
     }
 }
 
-fn rewire(rt: &HostRuntime, card: &str, part: &str) -> Result<(), Failure> {
-    let card_rows = typed(rt.alloc(), Side::Card, card)?;
-    let part_rows = typed(rt.alloc(), Side::Part, part)?;
-    let card = sized(Side::Card, card_rows.as_slice())?;
-    let part = sized(Side::Part, part_rows.as_slice())?;
-    let pile = Pile(Cofactor, Pile(Breakup, Refined(Cofactor)));
-    show(rt, &card, &part, &Comparison::of(&pile, &card, &part))
-}
-
 fn run(rt: &HostRuntime) -> Result<(), Failure> {
     let args: Vec<String> = env::args(rt)?.skip(1).collect(rt.alloc())?;
     match Request::of(args.as_slice()) {
-        Some(Request::Match { card, part }) => rewire(rt, card, part),
+        Some(Request::Match { card, part }) => {
+            let pile = Pile(Cofactor, Pile(Breakup, Refined(Cofactor)));
+            show(rt, &Comparison::of_typed(rt.alloc(), &pile, card, part)?)
+        }
         Some(Request::Help) => Ok(println!(rt; "{USAGE}")?),
         None => Err(Failure::Usage),
     }
