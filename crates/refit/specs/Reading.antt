@@ -2,6 +2,7 @@ use Rattle.std.specs.Prelude.{◌≡◌, ℕ, ◌^◌, ◌<◌, ◌≤◌, ◌-�
 use Rattle.std.specs.declared.alloc.Global.{Global}
 use Rattle.rows.specs.declared.on_off.OnOff.{OnOff}
 use Rattle.typed_rows.specs.Reading.{digit}
+use Rattle.typed_rows.specs.declared.size.Size.{Size}
 use Rattle.refit.specs.declared.failure.Failure.{Failure}
 use Rattle.refit.specs.declared.failure.Side.{Side}
 use Rattle.refit.specs.declared.failure.Side.TheVariants.{Card, Part}
@@ -23,6 +24,9 @@ Sized rows n = (n ≤ 11) × ((k : ℕ) → k < n → 2 ^ k < rows) × (n ≤ 10
 abbrev pub ReadTable : Side → List ℕ → Result Typed Failure → Type 0
 ReadTable side text (Ok table) = (text ≡ map digit (vec_items table.rows)) × Sized (vec_len table.rows) table.inputs
 ReadTable side text (Err failure) = ReadError side text failure
+
+abbrev pub size_of : Typed → Size
+size_of table = record { inputs = table.inputs; rows = vec_len table.rows }
 
 -- the text that a table was typed as
 abbrev pub spelled : Typed → List ℕ

@@ -57,6 +57,7 @@ pub fn answers_for<'a, P: Signature<OnOff>>(
     pile: &'a P,
 ) -> Result<Vec<Answer>, Failure>
     ensures answered { IfOk result (λ answers. Answered on_off_same (list_by P.Signature.count P.Signature.value) (length parts.now) [] (asked 1 parts.now card.now pile.now) (map told answers.items)) }
+    ensures few { IfOk result (λ _. length parts.now ≤ 64) }
     ensures failed { IfErr result (NoAnswers (length parts.now)) }
 {
     let slots = parts.len();
@@ -117,6 +118,7 @@ pub fn fit<'a, P: Signature<OnOff>>(
     pile: &'a P,
 ) -> Result<Fitting, Failure>
     ensures answered { IfOk result (λ fitting. Answered on_off_same (list_by P.Signature.count P.Signature.value) (length parts.now) [] (asked 1 parts.now card.now pile.now) (map told fitting.parts.items ++ answered Proposed fitting.card ∷ [])) }
+    ensures few { IfOk result (λ _. length parts.now ≤ 64) }
     ensures failed { IfErr result (NoAnswers (length parts.now)) }
 {
     let mut answers = answers_for(heap, parts, card, pile)?;

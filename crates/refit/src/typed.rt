@@ -1,10 +1,10 @@
-ghost use Rattle.std.specs.Prelude.{map, string_bytes, take};
+ghost use Rattle.std.specs.Prelude.{◌≡◌, map, string_bytes, take};
 ghost use Rattle.refit.specs.Reading.{ReadTable, ReadParts};
 
 use crate::failure::{Failure, Side};
 use rows::OnOff;
 use std::alloc::Global;
-use typed_rows::{RowsError, inputs_for, rows_from};
+use typed_rows::{RowsError, Size, inputs_for, rows_from};
 
 // What a shelf is told where so many rows ask for more inputs than a table has.
 const TOO_MANY_INPUTS: usize = 11;
@@ -15,6 +15,19 @@ const TOO_MANY_INPUTS: usize = 11;
 pub struct Typed {
     pub inputs: usize,
     pub rows: Vec<OnOff>,
+}
+
+impl Typed {
+    ghost use Rattle.refit.specs.Reading.{size_of};
+
+    pub fn size(&self) -> Size
+        ensures { result ≡ size_of self.now }
+    {
+        Size {
+            inputs: self.inputs,
+            rows: self.rows.len(),
+        }
+    }
 }
 
 // The table that a text of digits spells.

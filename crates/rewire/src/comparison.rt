@@ -1,6 +1,6 @@
 ghost use Rattle.std.specs.Prelude.{IfErr, IfOk};
 ghost use Rattle.fitting.specs.Pruning.{all_lists};
-ghost use Rattle.rewire.specs.Comparing.{Compares, ComparesTyped, CompareError};
+ghost use Rattle.rewire.specs.Comparing.{IsSize, Compares, ComparesTyped, CompareError};
 
 use crate::failure::{Failure, Side};
 use crate::typed::{sized, typed};
@@ -9,13 +9,7 @@ use rows::OnOff;
 use signatures::Signature;
 use std::alloc::Global;
 use tables::{Table, Wiring};
-
-// How many inputs and rows a table has.
-#[derive(Clone, Copy)]
-pub struct Size {
-    pub inputs: usize,
-    pub rows: usize,
-}
+use typed_rows::Size;
 
 // What there is to say of a card and a part: how large they are, how many pairs of input and pin signatures tell apart,
 // the spread, and the first wiring under which they agree.
@@ -28,16 +22,12 @@ pub struct Comparison {
     pub wiring: Option<Wiring>,
 }
 
-impl Size {
-    ghost use Rattle.rewire.specs.Comparing.{IsSize};
-
-    fn of(table: &Table<OnOff>) -> Size
-        ensures { IsSize table.now result }
-    {
-        Size {
-            inputs: table.inputs,
-            rows: table.rows.len(),
-        }
+fn size_of(table: &Table<OnOff>) -> Size
+    ensures { IsSize table.now result }
+{
+    Size {
+        inputs: table.inputs,
+        rows: table.rows.len(),
     }
 }
 
@@ -46,8 +36,8 @@ impl Comparison {
         ensures { Compares (all_lists (P.Signature.count pile.now) (P.Signature.value pile.now)) card.now part.now result }
     {
         Comparison {
-            card: Size::of(card),
-            part: Size::of(part),
+            card: size_of(card),
+            part: size_of(part),
             struck: struck_by(pile, card, part),
             spread: spread_by(pile, card, part),
             wiring: wiring_by(pile, card, part),

@@ -9,11 +9,11 @@ use comparison::Comparison;
 use failure::Failure;
 use request::{Request, USAGE};
 use signatures::{Breakup, Cofactor, Pile, Refined};
-use std::env;
 use std::process::ExitCode;
+use std::{env, io};
 use tables::Wiring;
 
-fn show_wiring(rt: &HostRuntime, wiring: &Wiring) -> Result<(), Failure> {
+fn show_wiring(rt: &HostRuntime, wiring: &Wiring) -> io::Result<()> {
     println!(rt; "the first wiring that agrees in every row:")?;
     for (input, pin) in wiring.pins().iter().enumerate() {
         println!(rt; "card input {input} -> pin {pin}")?;
@@ -21,22 +21,16 @@ fn show_wiring(rt: &HostRuntime, wiring: &Wiring) -> Result<(), Failure> {
     Ok(())
 }
 
-fn show(rt: &HostRuntime, found: &Comparison) -> Result<(), Failure> {
-    println!(rt;
-        "card: {} inputs, {} rows",
-        found.card.inputs, found.card.rows
-    )?;
-    println!(rt;
-        "part: {} inputs, {} rows",
-        found.part.inputs, found.part.rows
-    )?;
+fn show(rt: &HostRuntime, found: &Comparison) -> io::Result<()> {
+    println!(rt; "card: {}", found.card)?;
+    println!(rt; "part: {}", found.part)?;
     println!(rt;
         "pairs of input and pin that signatures tell apart: {}; spread: {}",
         found.struck, found.spread
     )?;
     match &found.wiring {
         Some(wiring) => show_wiring(rt, wiring),
-        None => Ok(println!(rt; "no wiring agrees in every row")?),
+        None => println!(rt; "no wiring agrees in every row"),
     }
 }
 
@@ -45,11 +39,13 @@ fn run(rt: &HostRuntime) -> Result<(), Failure> {
     match Request::of(args.as_slice()) {
         Some(Request::Match { card, part }) => {
             let pile = Pile(Cofactor, Pile(Breakup, Refined(Cofactor)));
-            show(rt, &Comparison::of_typed(rt.alloc(), &pile, card, part)?)
+            let found = Comparison::of_typed(rt.alloc(), &pile, card, part)?;
+            show(rt, &found)?;
         }
-        Some(Request::Help) => Ok(println!(rt; "{USAGE}")?),
-        None => Err(Failure::Usage),
+        Some(Request::Help) => println!(rt; "{USAGE}")?,
+        None => return Err(Failure::Usage),
     }
+    Ok(())
 }
 
 fn main(rt: HostRuntime) -> ExitCode {

@@ -3,7 +3,9 @@
 mod inputs;
 mod reading;
 mod rows_error;
+mod size;
 
 pub use inputs::inputs_for;
 pub use reading::rows_from;
 pub use rows_error::RowsError;
+pub use size::Size;
