@@ -10,7 +10,7 @@ use draws::Random;
 use inventory::{Proposal, Shelf};
 use refusals::Refusal;
 use rows::OnOff;
-use signatures::{Breakup, Cofactor, Pile, Refined};
+use signatures::STANDARD_PILE;
 use std::env;
 
 // Enters a part into each slot, of the two models in turn, which weigh unlike. The numbers fall, so that no part is
@@ -48,11 +48,10 @@ fn fit_all(
     cards: &[Rows; 4],
     fits: usize,
 ) -> Result<(usize, u64), Refusal> {
-    let pile = Pile(Cofactor, Pile(Breakup, Refined(Cofactor)));
     let mut without = 0;
     let mut sum = 0;
     for card in cards.iter().cycle().take(fits) {
-        match shelf.fit(memory, 10, card, &pile) {
+        match shelf.fit(memory, 10, card, &STANDARD_PILE) {
             Ok(proposal) => sum = summed(sum, &proposal),
             Err(Refusal::NoPartAgrees) => without += 1,
             Err(refusal) => return Err(refusal),

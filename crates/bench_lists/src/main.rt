@@ -2,14 +2,13 @@
 
 use draws::Random;
 use rows::OnOff;
-use signatures::{Breakup, Cofactor, Pile, Refined, Signature};
+use signatures::{STANDARD_PILE, Signature};
 use std::env;
 use tables::Table;
 
-// Works out the lists of the pile cofactor, breakup, refined over cofactor for so many tables of ten inputs, each the one
-// before with a row turned over, and sums one answer of each, so that no work can be left out.
+// Works out the lists of the standard pile for so many tables of ten inputs, each the one before with a row turned
+// over, and sums one answer of each, so that no work can be left out.
 fn sum_of_lists(tables: usize) -> u32 {
-    let pile = Pile(Cofactor, Pile(Breakup, Refined(Cofactor)));
     let mut rows = [OnOff::Off; 1024];
     let mut random = Random(1);
     let mut sum = 0u32;
@@ -23,7 +22,7 @@ fn sum_of_lists(tables: usize) -> u32 {
             inputs: 10,
             rows: &rows,
         };
-        let lists = pile.lists(&table);
+        let lists = STANDARD_PILE.lists(&table);
         sum = sum.wrapping_add(lists.answers[t % 10][t % 12]);
     }
     sum

@@ -11,7 +11,7 @@ use inventory::Proposal;
 use report::Report;
 use request::{Request, USAGE};
 use runs::Answer;
-use signatures::{Breakup, Cofactor, Pile, Refined};
+use signatures::STANDARD_PILE;
 use std::process::ExitCode;
 use std::{env, io};
 use typed::Typed;
@@ -60,8 +60,7 @@ fn run(rt: &HostRuntime) -> Result<(), Failure> {
     let args: Vec<String> = env::args(rt)?.skip(1).collect(rt.alloc())?;
     match Request::of(args.as_slice()) {
         Some(Request::Fit { card, parts }) => {
-            let pile = Pile(Cofactor, Pile(Breakup, Refined(Cofactor)));
-            show(rt, Report::of(rt.alloc(), &pile, card, parts)?)?;
+            show(rt, Report::of(rt.alloc(), &STANDARD_PILE, card, parts)?)?;
         }
         Some(Request::Help) => println!(rt; "{USAGE}")?,
         None => return Err(Failure::Usage),

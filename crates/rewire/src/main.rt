@@ -8,7 +8,7 @@ mod typed;
 use comparison::Comparison;
 use failure::Failure;
 use request::{Request, USAGE};
-use signatures::{Breakup, Cofactor, Pile, Refined};
+use signatures::STANDARD_PILE;
 use std::process::ExitCode;
 use std::{env, io};
 use tables::Wiring;
@@ -38,8 +38,7 @@ fn run(rt: &HostRuntime) -> Result<(), Failure> {
     let args: Vec<String> = env::args(rt)?.skip(1).collect(rt.alloc())?;
     match Request::of(args.as_slice()) {
         Some(Request::Match { card, part }) => {
-            let pile = Pile(Cofactor, Pile(Breakup, Refined(Cofactor)));
-            let found = Comparison::of_typed(rt.alloc(), &pile, card, part)?;
+            let found = Comparison::of_typed(rt.alloc(), &STANDARD_PILE, card, part)?;
             show(rt, &found)?;
         }
         Some(Request::Help) => println!(rt; "{USAGE}")?,

@@ -12,7 +12,7 @@ pub refine-requires-clause-light : goal.refine-requires-clause-light
 refine-requires-clause-light g c = λ k lk ne.
     let table = c.args.table.now in
     let ln : k < table.inputs = omega (arith, lk, c.requires) in
-    omega (arith, paired_small g.R.RowKind.weight g.met.R.RowKind.light table.inputs table.rows.now c.args.input k table.few c.if-input-table.true ln ne, c.pair_weights-pairs.ensures k ln)
+    omega (arith, paired_small g.R.RowKind.weight g.met.R.RowKind.laws.light table.inputs table.rows.now c.args.input k table.few c.if-input-table.true ln ne, c.pair_weights-pairs.ensures k ln)
 
 pub loop-place-preserved : goal.loop-place-preserved
 loop-place-preserved g c =

@@ -4,7 +4,7 @@ use Rattle.inventory.proofs.shelf.selecting.propose.Goals as goal
 
 pub returns-then-total_weight-weight : goal.returns-then-total_weight-weight
 returns-then-total_weight-weight g c =
-    unlike_weights g.R.RowKind.same (list_by g.P.Signature.count g.P.Signature.value) g.R.RowKind.weight g.met.R.RowKind.alike c.args.card.now c.args.part.now c.args.label.number c.total_weight.result c.args.weight c.requires.size c.total_weight.ensures c.requires.weight c.if-total_weight-weight.true
+    unlike_weights g.R.RowKind.same (list_by g.P.Signature.count g.P.Signature.value) g.R.RowKind.weight g.met.R.RowKind.laws.alike c.args.card.now c.args.part.now c.args.label.number c.total_weight.result c.args.weight c.requires.size c.total_weight.ensures c.requires.weight c.if-total_weight-weight.true
 
 pub returns-in_err-wiring : goal.returns-in_err-wiring
 returns-in_err-wiring g c =

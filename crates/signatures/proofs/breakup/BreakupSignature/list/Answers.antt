@@ -45,7 +45,7 @@ overflow_add-list g c =
     let table = c.args.table.now in
     let added = term g.R.RowKind.weight table.rows.now c.args.input in
     let few = few_ones table.inputs c.loop-r.r table.few (omega (arith, c.loop-r-test.true, table.whole)) in
-    let most = tally_most 10 added c.loop-r.r c.loop-r.list c.loop-r.invariant 255 (term_small g.R.RowKind.weight g.met.R.RowKind.light table.rows.now c.args.input) (ones c.loop-r.r - 1) (omega (arith, few)) in
+    let most = tally_most 10 added c.loop-r.r c.loop-r.list c.loop-r.invariant 255 (term_small g.R.RowKind.weight g.met.R.RowKind.laws.light table.rows.now c.args.input) (ones c.loop-r.r - 1) (omega (arith, few)) in
     let top : 2 ^ table.inputs ≤ 2 ^ 10 = pow_mono table.few in
     omega (arith, most, c.weight.type_inv, c.loop-r-test.true, table.whole, top)
 
