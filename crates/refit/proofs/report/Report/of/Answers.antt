@@ -32,6 +32,8 @@ returns-clause-reported g c =
     let all : length texts ≡ length (vec_items c.in_ok-parts.parts) = omega (arith, ap length items, c.in_ok-fitting.ensures.few) in
     record {
       card_typed = sym c.in_ok-card.ensures.0;
+      card_sized = c.in_ok-card.ensures.1;
       parts_typed = typed ∙ take_all 65 texts (omega (arith, ap length items, c.in_ok-fitting.ensures.few));
+      parts_sized = c.in_ok-parts.ensures.1;
       right = rw all (rw items at c.in_ok-fitting.ensures.answered);
     }
