@@ -1,5 +1,5 @@
 -- The best proposal of the slots so far, and one slot more.
-use Rattle.std.proofs.Common.{◌≡◌, ℕ, ◌+◌, ◌*◌, ◌^◌, ◌<◌, ◌≤◌, Bool, true, ◌⊎◌, List, length, get_or, drop, Some, None, Option, sym, refl, ap, ◌∙◌, subst, inl, inr, ⊎_elim, arith, length-drop, length-take-le}
+use Rattle.std.proofs.Common.{◌≡◌, ℕ, ◌+◌, ◌<◌, ◌≤◌, Bool, true, ◌⊎◌, List, get_or, Some, None, Option, sym, refl, ap, ◌∙◌, subst, inl, inr, ⊎_elim, arith}
 use Rattle.std.specs.Option.{option_or}
 use Rattle.std.proofs.lemmas.List.{get_or_default}
 use Rattle.std.proofs.lemmas.Option.{none-some}
@@ -8,14 +8,13 @@ use Rattle.tables.specs.Wirings.{pin}
 use Rattle.ledger.specs.Ledger.{Part}
 use Rattle.ledger.specs.Law.{Serves}
 use Rattle.ledger.proofs.Serving.{no_part_over, proposes_among, proposes_over}
-use Rattle.inventory.specs.Slots.{At, Held, HeldBelow, front, has, share}
+use Rattle.inventory.specs.Slots.{At, Held, HeldBelow, has, share}
 use Rattle.inventory.specs.Fitting.{Best, Worth}
 use Rattle.inventory.specs.declared.label.Label.{Label}
 use Rattle.inventory.specs.declared.proposal.Proposal.{Proposal}
 use Rattle.inventory.specs.declared.shelf.Shelf.{Shelf}
 use Rattle.inventory.proofs.Labels.{has_own, sharing}
 use Rattle.inventory.proofs.Places.{not_free, part_at, at_label, one_at}
-use Rattle.inventory.proofs.Writes.{rows_fit}
 
 same_proposal : (p q : Proposal) → Some p ≡ Some q → p ≡ q
 same_proposal p q e = cc
@@ -133,12 +132,6 @@ slot_read shelf k x lt = let whole = shelf.whole in get_or_default shelf.slots k
 -- a slot in use is one of those that the shelf has
 pub in_use : (shelf : Shelf) (k : ℕ) (label : Label) → get_or shelf.slots k None ≡ Some label → k < shelf.count
 in_use shelf k label e = ⊎_elim (λ lt. lt) (λ le. absurd (not_free (get_or shelf.slots k None) label (shelf.past k le) e)) (cases_lt k shelf.count)
-
--- the rows of a part fill its stretch's front
-pub front_size : {R : Type 0} (memory : List R) (k inputs : ℕ) → inputs ≤ 10 → (k + 1) * 1024 ≤ length memory → length (front memory k inputs) ≡ 2 ^ inputs
-front_size memory k inputs few room =
-    let small = rows_fit inputs few in
-    length-take-le (2 ^ inputs) (drop (k * 1024) memory) (simp length-drop (omega arith))
 
 -- past the last slot no part is left
 pub all_slots : {R P : Type 0} (same : R → R → Bool) (list : P → ℕ → List R → ℕ → List ℕ) (shelf : Shelf) (memory : List R) (inputs : ℕ) (card : List R) (pile : P) (k : ℕ) (best : Option Proposal)

@@ -24,9 +24,6 @@ module _ (card part : Lists) where
   abbrev pub Upto : ℕ → ℕ → List (List Bool) → Type 0
   Upto i p strikes = (a b : ℕ) → struck strikes a b ≡ (ltb a i || (eqb a i && ltb b p)) && unequal card part a b
 
-  pub upto_none : (strikes : List (List Bool)) → ((a b : ℕ) → struck strikes a b ≡ false) → Upto 0 0 strikes
-  upto_none strikes none a b = none a b ∙ grind (arith, nat_tests)
-
   pub upto_pass : (i p : ℕ) (strikes : List (List Bool)) → Upto i p strikes → unequal card part i p ≡ false → Upto i (p + 1) strikes
   upto_pass i p strikes h off a b = h a b ∙ grind (arith, nat_tests)
 
@@ -39,9 +36,6 @@ module _ (card part : Lists) where
       (cases_eq b p))
       (λ ni. s.elsewhere a b (λ t. ni t.0) ∙ h a b ∙ grind (arith, nat_tests))
       (cases_eq a i)
-
-  pub upto_row : (i p : ℕ) (strikes : List (List Bool)) → Upto i p strikes → part.inputs ≤ p → Upto (i + 1) 0 strikes
-  upto_row i p strikes h le a b = h a b ∙ grind (arith, nat_tests)
 
   pub upto_all : (i : ℕ) (strikes : List (List Bool)) → Upto i 0 strikes → card.inputs ≤ i → (a b : ℕ) → struck strikes a b ≡ unequal card part a b
   upto_all i strikes h le a b = h a b ∙ grind (arith, nat_tests)

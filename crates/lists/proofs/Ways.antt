@@ -99,7 +99,3 @@ module _ (card part : Lists) (n : ℕ) (inputs : card.inputs ≡ n) (pins : part
       (λ i li. mem_counting n (pin v i) (k.1.0.0 i (omega arith)))
       (λ i j t. k.1.0.1 i j (let l = t.0 in omega arith, let l = t.1 in omega arith, t.2))) in
       omega (arith, apart_le (w ∷ ws) (ways (list part) (lists card) (range_with_len 0 n)) a listed, ways_count (list part) (lists card) (range_with_len 0 n) (λ x. omega (arith, pins_held x, level x)), spread_running (lists card) (lists part) level)
-
--- what implies P holds of no more wirings
-pub at_most_of : (P Q : (ℕ → ℕ) → Type 0) (n k : ℕ) → ((w : ℕ → ℕ) → Q w → P w) → AtMost P n k → AtMost Q n k
-at_most_of P Q n k implies most ws a each = most ws a (λ w m. let h = each w m in (h.0, implies (pin w) h.1))

@@ -208,18 +208,6 @@ module _ {R : Type 0} (same : R → R → Bool) (search : Search R) (begun : Par
   none_left p lk le past v usable a = past (v begun.len) (let l = usable.agree.wires.0 begun.len lk in omega arith) v usable a refl
 
   module _ (none : begun.len ≡ 0) where
-    pub begun_empty : begun.inputs ≡ search.card.now.inputs → get_or search.carried 0 0 ≡ 0 → ((d : R) → same (get_or search.card.now.rows.now 0 d) (get_or search.part.now.rows.now 0 d) ≡ true) → Begun same search begun
-    begun_empty en zero_at here =
-        let only : (r : ℕ) → r < 2 ^ begun.len → r ≡ 0 = λ r lt. let e : 2 ^ begun.len ≡ 2 ^ 0 = ap (λ m. 2 ^ m) none in omega arith in
-        let at_zero : carry begun.len (pin begun.pins) 0 ≡ 0 = ap (λ m. carry m (pin begun.pins) 0) none in
-        record {
-          card_inputs = en;
-          spared = λ i li. absurd (omega arith);
-          carries = λ r lt. subst (λ y. get_or search.carried y 0 ≡ carry begun.len (pin begun.pins) y) (sym (only r lt)) (zero_at ∙ sym at_zero);
-          alike = λ r d lt. subst (λ y. same (get_or search.card.now.rows.now y d) (get_or search.part.now.rows.now (carry begun.len (pin begun.pins) y) d) ≡ true) (sym (only r lt))
-              (ap (λ y. same (get_or search.card.now.rows.now 0 d) (get_or search.part.now.rows.now y d)) at_zero ∙ here d);
-        }
-
     -- among the wirings that begin with no pin are all
     pub found : (r : Option Wiring) → Within same search begun r → Found same search.card.now search.part.now search.strikes.now.struck r
     found (Some x) h = (

@@ -1,6 +1,6 @@
 -- Calls played one after the other: one call more, and all of them.
 use Rattle.std.proofs.Common.{◌≡◌, ℕ, ◌+◌, ◌<◌, Bool, List, [], ◌∷◌, ◌++◌, map, length, get_or, take, set, Option, refl, ap, ◌∙◌, subst, arith}
-use Rattle.std.proofs.lemmas.List.{length-map, map_push, take_all, take_more, take_more_set}
+use Rattle.std.proofs.lemmas.List.{map_push, take_more, take_more_set}
 use Rattle.std.proofs.lemmas.Grind.{common_steps}
 use Rattle.ledger.specs.Ledger.{Part, Call, due, after, ledger_from}
 use Rattle.ledger.specs.Law.{Answer, Right, Answered}
@@ -53,11 +53,3 @@ module _ {R P : Type 0} (same : R → R → Bool) (list : P → ℕ → List R �
         let holds = subst (λ n. Holds shelf'.slots memory' (after n standing (said call))) count then.1 in
         rw (asked_more k call lt is, told_more answers k answer room, ledger_more parts asked (said call))
         (answered_more parts asked (map told (take k answers)) (said call) (told answer) so.0 right, holds)
-
-    pub play_all : (k : ℕ) (answers : List A) (labels : List (Option Label)) (memory : List R) → k ≡ length calls → PlayedTo k answers labels memory
-        → Answered same list slots parts (map said calls) (map told (take (length (map said calls)) answers))
-        × Holds labels memory (ledger_from slots parts (map said calls))
-    play_all k answers labels memory end so =
-        let last : k ≡ length (map said calls) = rw length-map end in
-        let whole = take_all (length (map said calls)) (map said calls) (omega arith) in
-        rw whole at (subst (λ n. PlayedTo n answers labels memory) last so)

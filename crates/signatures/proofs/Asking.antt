@@ -1,9 +1,9 @@
 -- Which questions have an answer, and which get 0.
-use Rattle.std.proofs.Common.{◌≡◌, ℕ, ◌^◌, ◌<◌, ◌≤◌, cond, ltb, List, length, get_or, set, replicate, arith}
+use Rattle.std.proofs.Common.{◌≡◌, ℕ, ◌<◌, ◌≤◌, cond, ltb, List, get_or, set, replicate, arith}
 use Rattle.std.proofs.lemmas.List.{get_or-set_other}
 use Rattle.std.proofs.lemmas.Bool.Decides.{nat_tests}
 use Rattle.signatures.proofs.Places.{zeros}
-use Rattle.signatures.specs.Law.{given, asked}
+use Rattle.signatures.specs.Law.{given}
 
 module _ {R : Type 0} (count : ℕ) (value : ℕ → List R → ℕ → ℕ → ℕ) (n : ℕ) (rows : List R) (i p : ℕ) where
   pub given_yes : i < n → p < count → given count value n rows i p ≡ value n rows i p
@@ -17,15 +17,6 @@ module _ {R : Type 0} (count : ℕ) (value : ℕ → List R → ℕ → ℕ → 
 
   pub given_no_place : count ≤ p → given count value n rows i p ≡ 0
   given_no_place le = grind (arith, nat_tests)
-
-  pub asked_yes : n ≤ 10 → length rows ≡ 2 ^ n → asked count value n rows i p ≡ given count value n rows i p
-  asked_yes few whole = grind (arith, nat_tests)
-
-  pub asked_no : (n ≤ 10 → length rows ≡ 2 ^ n → ⊥) → asked count value n rows i p ≡ 0
-  asked_no off = grind (arith, nat_tests)
-
-  pub asked_no_place : count ≤ p → asked count value n rows i p ≡ 0
-  asked_no_place le = grind (arith, nat_tests)
 
 -- a list of one place
 pub given_one : {R : Type 0} (value : ℕ → List R → ℕ → ℕ → ℕ) (n : ℕ) (rows : List R) (i x : ℕ) → i < n → x ≡ value n rows i 0 → (p : ℕ) → get_or (set (replicate 64 0) 0 x) p 0 ≡ given 1 value n rows i p

@@ -1,23 +1,16 @@
 -- A pile of two, from its parts.
-use Rattle.std.proofs.Common.{◌≡◌, ℕ, ◌-◌, ◌<◌, ◌≤◌, min, Bool, List, length, get_or, ⊎_elim, arith}
+use Rattle.std.proofs.Common.{◌≡◌, ℕ, ◌-◌, ◌<◌, ◌≤◌, min, List, length, get_or, ⊎_elim, arith}
 use native.Mathlib.Nat.{le-min}
 use Rattle.std.proofs.lemmas.List.{get_or_past}
 use Rattle.std.proofs.lemmas.Bool.Decides.{nat_tests}
 use Rattle.std.proofs.lemmas.Bool.{cases_lt}
-use Rattle.signatures.specs.Law.{given, Lawful}
+use Rattle.signatures.specs.Law.{given}
 use Rattle.signatures.specs.Values.{Joined, piled, piled_count}
 
 lt_min : (p a b : ℕ) → p < a → p < b → p < min a b
 lt_min p a b la lb = le-min la lb
 
 module _ {R : Type 0} (a b : ℕ) (first second : ℕ → List R → ℕ → ℕ → ℕ) where
-  pub piled_lawful : (same : R → R → Bool) → Lawful a first same → Lawful b second same → Lawful (piled_count a b) (piled a first second) same
-  piled_lawful same one two n card part w agree i p li lp =
-      ⊎_elim
-      (λ low. let here = one n card part w agree i p li low in grind (arith, nat_tests))
-      (λ high. let here = two n card part w agree i (p - a) li (omega arith) in grind (arith, nat_tests))
-      (cases_lt p a)
-
   module _ (n : ℕ) (rows : List R) (i : ℕ) (list one two : List ℕ) (whole : length list ≡ 64) (few : a ≤ 64) (is : Joined a one two list)
       (h : (p : ℕ) → get_or one p 0 ≡ given a first n rows i p) (k : (p : ℕ) → get_or two p 0 ≡ given b second n rows i p) where
     pub piled_list : (p : ℕ) → get_or list p 0 ≡ given (piled_count a b) (piled a first second) n rows i p

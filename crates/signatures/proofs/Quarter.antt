@@ -1,6 +1,5 @@
 -- Two inputs are both on in a quarter of the rows, so what they share weighs at most 65,280.
-use Rattle.std.proofs.Common.{◌≡◌, ℕ, zero, suc, ◌+◌, ◌*◌, ◌%◌, ◌^◌, ◌<◌, ◌≤◌, List, sym, refl, ap, ◌∙◌, mod-lt, arith, pow_mono}
-use Rattle.std.proofs.lemmas.Nat.{mul-le}
+use Rattle.std.proofs.Common.{◌≡◌, ℕ, zero, suc, ◌+◌, ◌*◌, ◌^◌, ◌<◌, ◌≤◌, List, sym, refl, ap, ◌∙◌, arith, pow_mono}
 use Rattle.std.proofs.lemmas.Bool.Decides.{nat_tests}
 use Rattle.tables.specs.Sums.{sum_to}
 use Rattle.tables.specs.Agreement.{bit}
@@ -52,6 +51,3 @@ module _ {R : Type 0} (weight : R → ℕ) (light : (x : R) → weight x < 256) 
       let quarter = two_bits n i k li lk ne in
       let full : 2 ^ n ≤ 2 ^ 10 = pow_mono le in
       omega (arith, a, b, half, quarter, full)
-
-pub product_small : (p b : ℕ) → p ≤ 65280 → p * (1 + b % 4096) ≤ 267386880
-product_small p b le = let m = mod-lt b {m = 4096} (omega arith) in mul-le p (1 + b % 4096) 65280 4096 le (omega arith)

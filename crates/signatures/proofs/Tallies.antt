@@ -1,10 +1,8 @@
 -- A list of zeros to which each row in turn adds at one place, or at none.
-use Rattle.std.proofs.Common.{◌≡◌, ℕ, ◌+◌, ◌*◌, ◌^◌, ◌<◌, ◌≤◌, cond, eqb, List, length, get_or, set, replicate, sym, refl, ap, ◌∙◌, ⊎_elim, arith, length-set, eq-eqb}
+use Rattle.std.proofs.Common.{◌≡◌, ℕ, ◌+◌, ◌*◌, ◌<◌, ◌≤◌, cond, eqb, List, length, get_or, set, replicate, refl, ap, ◌∙◌, ⊎_elim, arith, length-set, eq-eqb}
 use Rattle.std.proofs.lemmas.List.{get_or-set_same, get_or-set_other}
-use Rattle.std.proofs.lemmas.Bool.{cases_eq, cases_lt, ne_eqb}
+use Rattle.std.proofs.lemmas.Bool.{cases_eq, ne_eqb}
 use Rattle.tables.specs.Sums.{sum_to}
-use Rattle.signatures.specs.Law.{given}
-use Rattle.signatures.proofs.Asking.{given_yes, given_no_place}
 use Rattle.signatures.proofs.Places.{zeros}
 use Rattle.signatures.proofs.Turns.{sum_more, sum_most}
 
@@ -38,11 +36,3 @@ module _ (places : ℕ) (f : ℕ → ℕ → ℕ) where
               (cases_eq p q);
           empty = λ p le. get_or-set_other list q p sum 0 (λ e. omega arith) ∙ t.empty p le;
         }
-
-  pub tally_given : {R : Type 0} (value : ℕ → List R → ℕ → ℕ → ℕ) (n : ℕ) (rows : List R) (i : ℕ) → ((p : ℕ) → sum_to (2 ^ n) (f p) ≡ value n rows i p)
-      → (k : ℕ) (list : List ℕ) → Tally k list → k ≡ 2 ^ n → i < n → (p : ℕ) → get_or list p 0 ≡ given places value n rows i p
-  tally_given value n rows i is k list t all li p =
-      ⊎_elim
-      (λ low. t.summed p low ∙ ap (λ m. sum_to m (f p)) all ∙ is p ∙ sym (given_yes places value n rows i p li low))
-      (λ high. t.empty p high ∙ sym (given_no_place places value n rows i p high))
-      (cases_lt p places)

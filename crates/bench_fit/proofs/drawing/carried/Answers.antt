@@ -41,11 +41,3 @@ loop-r-preserved c =
           ∙ c.loop-r.invariant.1 k q d (omega arith) lq now)
           (cases_eq k r)),
     )
-
-pub returns : goal.returns
-returns c = record {
-  wires = ten_wires c.args.wiring.now c.requires;
-  card_rows = c.told-rows;
-  part_rows = c.loop-r.invariant.0;
-  rows = λ r q d lr lq carried. rw (c.loop-r.invariant.1 r q d (omega arith) lq carried) (same_itself _);
-}

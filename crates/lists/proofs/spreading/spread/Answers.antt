@@ -1,8 +1,7 @@
 use Rattle.std.proofs.Common.{◌≡◌, ℕ, ◌+◌, ◌*◌, ◌≤◌, length, drop, sym, refl, ap, ◌∙◌, mul-one, arith, below_more}
-use Rattle.std.proofs.lemmas.List.{at_drop_all, length-drop}
-use Rattle.std.proofs.lemmas.List.Sums.{count_by-le-length}
+use Rattle.std.proofs.lemmas.List.{at_drop_all}
 use Rattle.tables.specs.Wirings.{Wires}
-use Rattle.lists.specs.Lists.{list, lists, equal, Keeps}
+use Rattle.lists.specs.Lists.{list, lists, Keeps}
 use Rattle.lists.specs.Spread.{times, spread}
 use Rattle.lists.specs.Counting.{AtMost}
 use Rattle.lists.specs.declared.lists.Lists.{Lists}
@@ -35,11 +34,6 @@ later c = c.times-later.ensures ∙ ap (λ x. times x (drop (c.loop-input.input 
 
 more : (c : goal.After-times-later) → c.loop-input.product * (1 + c.times-later.result) * running (drop (c.loop-input.input + 1) (lists c.args.card.now)) ≡ running (lists c.args.card.now)
 more c = running_more (lists c.args.card.now) c.loop-input.input c.loop-input.product c.times-later.result (omega (arith, length-lists c.args.card.now)) (later c) c.loop-input.invariant.0
-
-pub overflow_add-product : goal.overflow_add-product
-overflow_add-product c =
-    let xs = lists c.args.card.now in
-    omega (arith, later c, count_by-le-length (equal (list c.args.card.now c.loop-input.input)) (drop (c.loop-input.input + 1) xs), length-drop (c.loop-input.input + 1) xs, length-lists c.args.card.now)
 
 pub overflow_mul-product : goal.overflow_mul-product
 overflow_mul-product c =

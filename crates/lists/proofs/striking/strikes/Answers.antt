@@ -1,11 +1,8 @@
 use Rattle.std.proofs.Common.{not, sym, ap, ◌∙◌, arith}
 use Rattle.matching.specs.Struck.{struck}
-use Rattle.lists.proofs.Pairs.{unequal_here, unequal_not, unequal_so, upto_none, upto_pass, upto_strike, upto_row, upto_all}
+use Rattle.lists.proofs.Pairs.{unequal_here, unequal_not, unequal_so, upto_pass, upto_strike, upto_all}
 use Rattle.lists.proofs.striking.strikes.Goals as goal
 use Rattle.lists.proofs.striking.strikes.Goals.{then-not-is_equal, else-not-is_equal}
-
-pub loop-input-init : goal.loop-input-init
-loop-input-init c = upto_none c.args.card.now c.args.part.now c.none-strikes.result.struck c.none-strikes.ensures
 
 pub loop-pin-preserved : goal.loop-pin-preserved
 loop-pin-preserved c =
@@ -22,9 +19,6 @@ loop-pin-preserved c =
           ap (λ s. struck s.struck a b) way.strikes-is
           ∙ upto_pass card part i p c.loop-pin.strikes.struck c.loop-pin.invariant (here ∙ ap not way.if-not-is_equal.false) a b
     ]
-
-pub loop-input-preserved : goal.loop-input-preserved
-loop-input-preserved c = upto_row c.args.card.now c.args.part.now c.loop-input.input c.loop-pin.pin c.loop-pin.strikes.struck c.loop-pin.invariant c.loop-pin-test.false
 
 pub returns : goal.returns
 returns c =

@@ -1,7 +1,5 @@
 use Rattle.std.proofs.Common.{◌≡◌, ◌≤◌, ap, ◌∙◌, arith}
-use Rattle.std.proofs.lemmas.List.{take_all}
 use Rattle.lists.specs.Lists.{list, lists}
-use Rattle.lists.specs.Pairs.{struck_pairs}
 use Rattle.lists.specs.Spread.{times}
 use Rattle.lists.proofs.Rows.{length-lists}
 use Rattle.lists.proofs.Times.{times_others}
@@ -14,9 +12,6 @@ counted c = c.times-fitting.ensures ∙ ap (λ x. times x (lists c.args.part.now
 fewer : (c : goal.After-times-fitting) → c.times-fitting.result ≤ c.args.part.now.inputs
 fewer c = omega (arith, counted c, times_others (list c.args.card.now c.loop-input.input) (lists c.args.part.now), length-lists c.args.part.now)
 
-pub overflow_sub-count : goal.overflow_sub-count
-overflow_sub-count c = fewer c
-
 pub loop-input-preserved : goal.loop-input-preserved
 loop-input-preserved c =
     let card = c.args.card.now in
@@ -24,8 +19,3 @@ loop-input-preserved c =
     let i = c.loop-input.input in
     let more = struck_pairs_more (lists card) (lists part) i c.times-fitting.result (omega (arith, length-lists card)) (counted c) in
     (omega arith, omega (arith, more, fewer c, length-lists part))
-
-pub returns : goal.returns
-returns c =
-    let xs = lists c.args.card.now in
-    c.loop-input.invariant.1 ∙ ap (λ l. struck_pairs l (lists c.args.part.now)) (take_all c.loop-input.input xs (omega (arith, length-lists c.args.card.now, c.loop-input-test.false)))

@@ -1,9 +1,9 @@
-use Rattle.std.proofs.Common.{◌≡◌, Bool, true, false, get_or, refl, sym, ap, ◌∙◌, arith, pow_pos}
+use Rattle.std.proofs.Common.{◌≡◌, Bool, false, get_or, sym, ap, ◌∙◌, arith, pow_pos}
 use Rattle.tables.specs.Sums.{weighed}
 use Rattle.tables.proofs.Reading.{same_inputs, same_rows}
 use Rattle.tables.proofs.Reindex.{total_there}
 use Rattle.tables.specs.declared.table.Table.{Table}
-use Rattle.matching.proofs.Choosing.{differs_first, begun_empty, found}
+use Rattle.matching.proofs.Choosing.{differs_first, found}
 use Rattle.matching.proofs.search.first_wiring.Goals as goal
 use Rattle.matching.proofs.search.first_wiring.Goals.{then-card-part-via-then-card-part, then-card-part-via-else-card-part+then-total_weight, then-card-part-via-else-card-part+else-total_weight+then-not-is_same}
 
@@ -34,13 +34,6 @@ returns-then-card-part g c =
           differs_first same card part c.args.strikes.now.struck
           (first_rows same card part way.index-card-0.result way.index-part-0.result false way.index-card-0.is way.index-part-0.is way.if-not-is_same.ensures)
     ]
-
-pub extend-requires : goal.extend-requires
-extend-requires g c =
-    let same = g.R.RowKind.same in
-    let empty = c.in-Ok.ensures.1 in
-    begun_empty same _ c.in-Ok.begun empty.1 empty.0 refl
-    (first_rows same c.args.card.now c.args.part.now c.index-card-0.result c.index-part-0.result true c.index-card-0.is c.index-part-0.is c.if-not-is_same.ensures)
 
 pub returns : goal.returns
 returns g c = found g.R.RowKind.same _ c.in-Ok.begun c.in-Ok.ensures.1.1 c.extend.result c.extend.ensures.answer

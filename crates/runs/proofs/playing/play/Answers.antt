@@ -1,19 +1,9 @@
-use Rattle.std.proofs.Common.{◌≡◌, ◌<◌, length, refl, ◌∙◌, arith}
-use Rattle.std.proofs.lemmas.List.{length-map}
-use Rattle.std.proofs.lemmas.Bool.{lt-ltb, le-ltb}
+use Rattle.std.proofs.Common.{◌<◌, length, ◌∙◌, arith}
 use Rattle.std.proofs.lemmas.Grind.{common_steps}
 use Rattle.ledger.specs.Law.{list_by}
 use Rattle.runs.specs.Transcript.{said, told}
-use Rattle.runs.proofs.Turns.{play_more, play_all}
+use Rattle.runs.proofs.Turns.{play_more}
 use Rattle.runs.proofs.playing.play.Goals as goal
-
-pub returns-then-answers-calls : goal.returns-then-answers-calls
-returns-then-answers-calls g c =
-    let short = lt-ltb (length c.args.answers.now) (length c.args.calls.now) c.if-answers-calls.true in
-    (rw (c.in_ok-check_memory.ensures.0, length-map c.args.calls.now said, short), refl, refl, refl)
-
-pub loop-k-init : goal.loop-k-init
-loop-k-init g c = (c.in_ok-check_memory.ensures.1, refl, refl, λ parts h. (tt, h))
 
 pub loop-k-preserved : goal.loop-k-preserved
 loop-k-preserved g c =
@@ -26,16 +16,4 @@ loop-k-preserved g c =
       λ parts h.
           play_more g.R.RowKind.same (list_by g.P.Signature.count g.P.Signature.value) c.args.shelf.now.count said told parts c.args.calls.now k c.loop-k.answers c.loop-k.shelf c.loop-k.memory c.index-calls-k.result c.obey.result c.obey.new.shelf c.obey.new.memory
           c.loop-k-test.true long c.index-calls-k.is i.1 (i.3 parts h) c.obey.ensures,
-    )
-
-pub returns : goal.returns
-returns g c =
-    let i = c.loop-k.invariant in
-    let end : c.loop-k.k ≡ length c.args.calls.now = omega arith in
-    let calls = length-map c.args.calls.now said in
-    let room = le-ltb (length c.args.answers.now) (length c.args.calls.now) c.if-answers-calls.false in (
-      rw (c.in_ok-check_memory.ensures.0, calls, room),
-      i.1,
-      rw calls i.2,
-      λ parts h. play_all g.R.RowKind.same (list_by g.P.Signature.count g.P.Signature.value) c.args.shelf.now.count said told parts c.args.calls.now c.loop-k.k c.loop-k.answers c.loop-k.shelf.slots c.loop-k.memory end (i.3 parts h),
     )

@@ -10,6 +10,3 @@ first c = first_from_Range _ _ _ c.find.result (λ n. n < 11 → c.args.rows ≤
 
 pub returns-clause-least : goal.returns-clause-least
 returns-clause-least c = search (rules, first c)
-
-pub returns-clause-past_ten : goal.returns-clause-past_ten
-returns-clause-past_ten c = search (rules, first c)

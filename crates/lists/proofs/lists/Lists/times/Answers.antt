@@ -1,8 +1,6 @@
-use Rattle.std.proofs.Common.{◌≡◌, ℕ, drop, arith}
-use Rattle.std.proofs.lemmas.List.{at_drop_all}
+use Rattle.std.proofs.Common.{ℕ, arith}
 use Rattle.std.proofs.lemmas.Bool.{cond-true, cond-false}
 use Rattle.lists.specs.Lists.{lists}
-use Rattle.lists.specs.Spread.{times}
 use Rattle.lists.proofs.Rows.{length-lists}
 use Rattle.lists.proofs.Times.{equal_from_eq, times_drop_more}
 use Rattle.lists.proofs.lists.Lists.times.Goals as goal
@@ -17,10 +15,3 @@ loop-input-preserved c =
       | then-eq way ↦ (omega (arith, way.times-is), omega (arith, way.times-is, more, cond-true {A = ℕ} c.eq.result 1 0 way.if-eq.true))
       | else-eq way ↦ (omega (arith, way.times-is), omega (arith, way.times-is, more, cond-false {A = ℕ} c.eq.result 1 0 way.if-eq.false))
     ]
-
-pub returns : goal.returns
-returns c =
-    let x = c.args.sought.now in
-    let t = c.args.self.now in
-    let none : times x (drop c.loop-input.input (lists t)) ≡ 0 = at_drop_all (times x) (lists t) c.loop-input.input (omega (arith, length-lists t, c.loop-input-test.false)) in
-    omega (arith, c.loop-input.invariant.1)

@@ -1,4 +1,4 @@
-use Rattle.std.proofs.Common.{◌≡◌, ℕ, ◌+◌, ◌-◌, ◌^◌, ◌<◌, ◌≤◌, cond, eqb, List, sym, refl, subst, lit≤, ◌∙◌, arith, pow_mono}
+use Rattle.std.proofs.Common.{◌≡◌, ℕ, ◌+◌, ◌-◌, ◌^◌, ◌<◌, ◌≤◌, cond, eqb, List, sym, subst, lit≤, ◌∙◌, arith, pow_mono}
 use lib.Count.{ones, ones-le}
 use Rattle.std.proofs.lemmas.Bool.Decides.{nat_tests}
 use Rattle.tables.specs.Agreement.{bit}
@@ -6,7 +6,7 @@ use Rattle.signatures.specs.Values.{where_on, weight_at, breakup}
 use Rattle.signatures.proofs.Asking.{given_no_input}
 use Rattle.signatures.proofs.Places.{zeros}
 use Rattle.signatures.proofs.Ones.{ones_some}
-use Rattle.signatures.proofs.Tallies.{Tally, tally_none, tally_most, tally_same, tally_more, tally_given}
+use Rattle.signatures.proofs.Tallies.{Tally, tally_none, tally_most, tally_same, tally_more}
 use Rattle.signatures.proofs.Turns.{on_no, on_from, off_from, weight_is, weight_small, cond_most}
 use Rattle.signatures.proofs.breakup.BreakupSignature.list.Goals as goal
 use Rattle.signatures.proofs.breakup.BreakupSignature.list.Goals.{then-is_on, else-is_on}
@@ -23,12 +23,6 @@ overflow_sub-place g c = ones_some c.args.table.now.inputs c.args.input c.loop-r
 -- a row of a table has at most ten bits set
 few_ones : (n r : ℕ) → n ≤ 10 → r < 2 ^ n → ones r ≤ 10
 few_ones n r few lr = let top : 2 ^ n ≤ 2 ^ 10 = pow_mono few in ones-le 10 r (omega arith)
-
-pub bounds-list-place : goal.bounds-list-place
-bounds-list-place g c =
-    let table = c.args.table.now in
-    let few = few_ones table.inputs c.loop-r.r table.few (omega (arith, c.loop-r-test.true, table.whole)) in
-    omega arith
 
 -- what row r adds at place p
 abbrev term : {R : Type 0} → (R → ℕ) → List R → ℕ → ℕ → ℕ → ℕ
@@ -70,8 +64,3 @@ loop-r-preserved g c =
           subst (Tally 10 added (r + 1)) (sym way.list-is)
           (tally_same 10 added r c.loop-r.list c.loop-r.invariant (λ p _. on_no i r _ (off_from i r c.is_on.result c.is_on.ensures way.if-is_on.false)))
     ]
-
-pub returns : goal.returns
-returns g c =
-    let table = c.args.table.now in
-    tally_given 10 (term g.R.RowKind.weight table.rows.now c.args.input) (breakup g.R.RowKind.weight) table.inputs table.rows.now c.args.input (λ p. refl) c.loop-r.r c.loop-r.list c.loop-r.invariant (omega (arith, c.loop-r-test.false, c.loop-r.auto.r-end, table.whole)) c.if-input-table.false

@@ -1,11 +1,10 @@
-use Rattle.std.proofs.Common.{◌+◌, ◌^◌, ◌≤◌, cond, sym, refl, ap, subst, lit≤, ◌∙◌, arith, pow_mono}
+use Rattle.std.proofs.Common.{◌+◌, ◌^◌, ◌≤◌, cond, sym, ap, subst, lit≤, ◌∙◌, arith, pow_mono}
 use Rattle.tables.proofs.Shifts.{shift}
 use Rattle.signatures.specs.Values.{neighbour}
 use Rattle.signatures.proofs.Asking.{given_no_input}
-use Rattle.signatures.proofs.Flips.{flip_less}
 use Rattle.signatures.proofs.Places.{zeros}
 use Rattle.signatures.proofs.Neighbours.{term, term_small, term_is}
-use Rattle.signatures.proofs.Tallies.{Tally, tally_none, tally_most, tally_same, tally_more, tally_given}
+use Rattle.signatures.proofs.Tallies.{Tally, tally_none, tally_most, tally_same, tally_more}
 use Rattle.signatures.proofs.Turns.{on_no, on_from, off_from}
 use Rattle.signatures.proofs.neighbour.NeighbourSignature.list.Goals as goal
 use Rattle.signatures.proofs.neighbour.NeighbourSignature.list.Goals.{then-is_on+in-Some, then-is_on+in_default, else-is_on}
@@ -15,13 +14,6 @@ returns-then-input-table g c = λ p. zeros 64 p ∙ sym (given_no_input 3 (neigh
 
 pub loop-r-init : goal.loop-r-init
 loop-r-init g c = tally_none 3 _
-
-pub overflow_sub-r : goal.overflow_sub-r
-overflow_sub-r g c =
-    let table = c.args.table.now in
-    let e = shift c.args.input 18446744073709551616 (omega (arith, c.if-input-table.false, table.few)) (omega arith) in
-    let less = flip_less table.inputs c.args.input c.loop-r.r c.if-input-table.false (omega (arith, c.loop-r-test.true, table.whole)) (on_from c.args.input c.loop-r.r c.is_on.result c.is_on.ensures c.if-is_on.true) in
-    omega arith
 
 pub overflow_add-list : goal.overflow_add-list
 overflow_add-list g c =
@@ -56,8 +48,3 @@ loop-r-preserved g c =
           subst (Tally 3 added (r + 1)) (sym way.list-is)
           (tally_same 3 added r c.loop-r.list c.loop-r.invariant (λ p _. on_no i r _ (off_from i r c.is_on.result c.is_on.ensures way.if-is_on.false)))
     ]
-
-pub returns : goal.returns
-returns g c =
-    let table = c.args.table.now in
-    tally_given 3 (term g.R.RowKind.same g.R.RowKind.weight table.rows.now c.args.input) (neighbour g.R.RowKind.same g.R.RowKind.weight) table.inputs table.rows.now c.args.input (λ p. refl) c.loop-r.r c.loop-r.list c.loop-r.invariant (omega (arith, c.loop-r-test.false, c.loop-r.auto.r-end, table.whole)) c.if-input-table.false
