@@ -7,9 +7,6 @@ use Rattle.std.proofs.lemmas.Bool.{cases_lt}
 use Rattle.signatures.specs.Law.{given}
 use Rattle.signatures.specs.Values.{Joined, piled, piled_count}
 
-lt_min : (p a b : ℕ) → p < a → p < b → p < min a b
-lt_min p a b la lb = le-min la lb
-
 module _ {R : Type 0} (a b : ℕ) (first second : ℕ → List R → ℕ → ℕ → ℕ) where
   module _ (n : ℕ) (rows : List R) (i : ℕ) (list one two : List ℕ) (whole : length list ≡ 64) (few : a ≤ 64) (is : Joined a one two list)
       (h : (p : ℕ) → get_or one p 0 ≡ given a first n rows i p) (k : (p : ℕ) → get_or two p 0 ≡ given b second n rows i p) where
