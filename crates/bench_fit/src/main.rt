@@ -46,11 +46,11 @@ fn fit_all(
     shelf: &Shelf,
     memory: &[OnOff],
     cards: &[Rows; 4],
-    fits: usize,
-) -> Result<(usize, u64), Refusal> {
+    fits: u32,
+) -> Result<(u32, u64), Refusal> {
     let mut without = 0;
     let mut sum = 0;
-    for card in cards.iter().cycle().take(fits) {
+    for card in cards.iter().cycle().take(fits as usize) {
         match shelf.fit(memory, 10, card, &STANDARD_PILE) {
             Ok(proposal) => sum = summed(sum, &proposal),
             Err(Refusal::NoPartAgrees) => without += 1,

@@ -8,7 +8,7 @@ use tables::Table;
 
 // Works out the lists of the standard pile for so many tables of ten inputs, each the one before with a row turned
 // over, and sums one answer of each, so that no work can be left out.
-fn sum_of_lists(tables: usize) -> u32 {
+fn sum_of_lists(tables: u32) -> u32 {
     let mut rows = [OnOff::Off; 1024];
     let mut random = Random(1);
     let mut sum = 0u32;
@@ -23,7 +23,7 @@ fn sum_of_lists(tables: usize) -> u32 {
             rows: &rows,
         };
         let lists = STANDARD_PILE.lists(&table);
-        sum = sum.wrapping_add(lists.answers[t % 10][t % 12]);
+        sum = sum.wrapping_add(lists.answers[t as usize % 10][t as usize % 12]);
     }
     sum
 }

@@ -1,7 +1,6 @@
-use Rattle.std.specs.Prelude.{◌≡◌, ℕ, ◌^◌, ◌<◌, ◌≤◌, ◌-◌, List, [], map, length, slice_index_or, All, Ok, Err, vec_items, vec_len, Result, Vec, ◌≢◌}
+use Rattle.std.specs.Prelude.{◌≡◌, ℕ, ◌^◌, ◌<◌, ◌≤◌, ◌-◌, List, [], map, length, slice_index_or, All, Ok, Err, vec_items, vec_len, Result, Vec}
 use Rattle.std.specs.declared.alloc.Global.{Global}
-use Rattle.rows.specs.declared.on_off.OnOff.{OnOff}
-use Rattle.typed_rows.specs.Reading.{digit}
+use Rattle.typed_rows.specs.Reading.{digit, SpellsNone}
 use Rattle.typed_rows.specs.declared.size.Size.{Size}
 use Rattle.refit.specs.declared.failure.Failure.{Failure}
 use Rattle.refit.specs.declared.failure.Side.{Side}
@@ -11,7 +10,7 @@ use Rattle.refit.specs.declared.failure.Failure.TheVariants.{Usage, NotRows, Car
 
 abbrev pub ReadError : Side → List ℕ → Failure → Type 0
 ReadError side text Usage = ⊥
-ReadError side text (NotRows s) = (s ≡ side) × ((rows : List OnOff) → text ≢ map digit rows)
+ReadError side text (NotRows s) = (s ≡ side) × SpellsNone text
 ReadError side text (CardRefused r) = ⊥
 ReadError side text Memory = Unit {0}
 ReadError side text Output = ⊥
@@ -36,7 +35,7 @@ abbrev pub PartsError : List (List ℕ) → Failure → Type 0
 PartsError texts Usage = ⊥
 PartsError texts (NotRows Card) = ⊥
 PartsError texts (NotRows (Part n)) =
-    (1 ≤ n) × (n ≤ length texts) × ((rows : List OnOff) → slice_index_or texts (n - 1) [] ≢ map digit rows)
+    (1 ≤ n) × (n ≤ length texts) × SpellsNone (slice_index_or texts (n - 1) [])
 PartsError texts (CardRefused r) = ⊥
 PartsError texts Memory = Unit {0}
 PartsError texts Output = ⊥

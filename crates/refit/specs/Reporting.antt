@@ -1,8 +1,8 @@
 -- What the program makes of a card and parts as they were typed.
-use Rattle.std.specs.Prelude.{◌≡◌, ◌≢◌, ℕ, ◌<◌, ◌⊎◌, List, [], ◌∷◌, ◌++◌, map, length, take, All, vec_items, vec_len}
+use Rattle.std.specs.Prelude.{◌≡◌, ℕ, ◌<◌, ◌⊎◌, List, [], ◌∷◌, ◌++◌, map, length, take, All, vec_items, vec_len}
 use Rattle.rows.specs.Kinds.{on_off_same}
 use Rattle.rows.specs.declared.on_off.OnOff.{OnOff}
-use Rattle.typed_rows.specs.Reading.{digit}
+use Rattle.typed_rows.specs.Reading.{SpellsNone}
 use Rattle.ledger.specs.Law.{Answered}
 use Rattle.runs.specs.Transcript.{told, answered}
 use Rattle.runs.specs.declared.answer.Grant.TheVariants.{Proposed}
@@ -24,7 +24,7 @@ pub record Reports {P : Type 0} (list : P → ℕ → List OnOff → ℕ → Lis
 -- the parts are none or more than 64, or one of the texts spells no rows, or there is no memory
 abbrev pub ReportError : List ℕ → List (List ℕ) → Failure → Type 0
 ReportError card parts Usage = (length parts ≡ 0) ⊎ (64 < length parts)
-ReportError card parts (NotRows Card) = (rows : List OnOff) → card ≢ map digit rows
+ReportError card parts (NotRows Card) = SpellsNone card
 ReportError card parts (NotRows (Part n)) = PartsError (take 65 parts) (NotRows (Part n))
 ReportError card parts (CardRefused refusal) = ⊥
 ReportError card parts Memory = Unit {0}

@@ -67,15 +67,14 @@ pub fn answers_for<'a, P: Signature<OnOff>>(
     let calls = calls_for(heap, parts, card, pile)?;
     let mut answers = room_for(heap, calls.len())?;
     let mut memory = vec![in heap; OnOff::Off; slots * 1024]?;
-    match open_and_play(
+    open_and_play(
         slots,
         memory.as_mut_slice(),
         calls.as_slice(),
         answers.as_mut_slice(),
-    ) {
-        Ok(_) => Ok(answers),
-        Err(_) => Err(Failure::Usage),
-    }
+    )
+    .map_err(|_| Failure::Usage)?;
+    Ok(answers)
 }
 
 // The answer to a fit.

@@ -1,11 +1,11 @@
-use Rattle.std.specs.Prelude.{◌≡◌, ◌≢◌, ℕ, List, map, length}
+use Rattle.std.specs.Prelude.{◌≡◌, ℕ, List, map, length}
 use Rattle.rows.specs.Kinds.{on_off_same}
 use Rattle.rows.specs.declared.on_off.OnOff.{OnOff}
 use Rattle.tables.specs.declared.table.Table.{Table}
 use Rattle.lists.specs.Pairs.{struck_pairs}
 use Rattle.lists.specs.Spread.{spread}
 use Rattle.fitting.specs.Fits.{Fits}
-use Rattle.typed_rows.specs.Reading.{digit}
+use Rattle.typed_rows.specs.Reading.{digit, SpellsNone}
 use Rattle.typed_rows.specs.declared.size.Size.{Size}
 use Rattle.rewire.specs.Reading.{NoTable}
 use Rattle.rewire.specs.declared.comparison.Comparison.{Comparison}
@@ -35,8 +35,8 @@ module _ (lists : ℕ → List OnOff → List (List ℕ)) where
 -- one of the texts spells no rows, or is of so many digits that the rows are no table, or there is no memory
 abbrev pub CompareError : List ℕ → List ℕ → Failure → Type 0
 CompareError card part Usage = ⊥
-CompareError card part (NotRows Card) = (rows : List OnOff) → card ≢ map digit rows
-CompareError card part (NotRows Part) = (rows : List OnOff) → part ≢ map digit rows
+CompareError card part (NotRows Card) = SpellsNone card
+CompareError card part (NotRows Part) = SpellsNone part
 CompareError card part (Refused Card refusal) = NoTable (length card) refusal
 CompareError card part (Refused Part refusal) = NoTable (length part) refusal
 CompareError card part Memory = Unit {0}

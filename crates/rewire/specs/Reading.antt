@@ -4,14 +4,14 @@ use Rattle.refusals.specs.declared.refusal.Refusal.{Refusal}
 use Rattle.refusals.specs.Numbers.{number}
 use Rattle.rows.specs.declared.on_off.OnOff.{OnOff}
 use Rattle.tables.specs.declared.table.Table.{Table}
-use Rattle.typed_rows.specs.Reading.{digit}
+use Rattle.typed_rows.specs.Reading.{digit, SpellsNone}
 use Rattle.rewire.specs.declared.failure.Failure.{Failure}
 use Rattle.rewire.specs.declared.failure.Side.{Side}
 use Rattle.rewire.specs.declared.failure.Failure.TheVariants.{Usage, NotRows, Refused, Memory, Output}
 
 abbrev pub ReadError : Side → List ℕ → Failure → Type 0
 ReadError side text Usage = ⊥
-ReadError side text (NotRows s) = (s ≡ side) × ((rows : List OnOff) → text ≢ map digit rows)
+ReadError side text (NotRows s) = (s ≡ side) × SpellsNone text
 ReadError side text (Refused s r) = ⊥
 ReadError side text Memory = Unit {0}
 ReadError side text Output = ⊥

@@ -21,8 +21,6 @@ pub fn typed(heap: Global, side: Side, text: &str) -> Result<Vec<OnOff>, Failure
 pub fn sized(side: Side, rows: &[OnOff]) -> Result<Table<'_, OnOff>, Failure>
     ensures { ReadTable side rows.now result }
 {
-    let Some(inputs) = inputs_for(rows.len()) else {
-        return Err(Failure::Refused(side, Refusal::TooManyInputs));
-    };
+    let inputs = inputs_for(rows.len()).ok_or(Failure::Refused(side, Refusal::TooManyInputs))?;
     Table::new(inputs, rows).map_err(|refusal| Failure::Refused(side, refusal))
 }

@@ -11,7 +11,7 @@ mod tests {
     use refusals::Refusal;
     use rows::{Drive, Indistinct, OnOff, RowKind};
     use runs::{Answer, Call, Grant, play};
-    use signatures::{Blank, Breakup, Cofactor, Pile, Refined, Signature};
+    use signatures::{Blank, Cofactor, STANDARD_PILE, Signature};
     use std::process::Abort;
     use std::test::Fail;
     use std::{array, slice};
@@ -135,12 +135,11 @@ mod tests {
         let mut memory = [F; 16384];
         let card = [F, F, T, T, F, T, F, T];
         let other = [F, F, F, T, T, F, T, T];
-        let pile = Pile(Cofactor, Pile(Breakup, Refined(Cofactor)));
         assert!(rt; is_done(enter(&mut shelf, &mut memory, 30, 3, &other)));
         assert!(rt; is_done(enter(&mut shelf, &mut memory, 12, 3, &card)));
         is_fit(
             &rt,
-            fit(&mut shelf, &mut memory, 3, &card, &pile),
+            fit(&mut shelf, &mut memory, 3, &card, &STANDARD_PILE),
             12,
             &[0, 1, 2],
             6,
@@ -148,12 +147,17 @@ mod tests {
         assert!(rt; is_done(remove(&mut shelf, &mut memory, 12)));
         is_fit(
             &rt,
-            fit(&mut shelf, &mut memory, 3, &card, &pile),
+            fit(&mut shelf, &mut memory, 3, &card, &STANDARD_PILE),
             30,
             &[1, 2, 0],
             6,
         )?;
-        assert!(rt; is_refused(fit(&mut shelf, &mut memory, 2, &[F, T, T, T], &pile), 10));
+        assert!(rt;
+            is_refused(
+                fit(&mut shelf, &mut memory, 2, &[F, T, T, T], &STANDARD_PILE),
+                10
+            )
+        );
         Ok(())
     }
 

@@ -16,7 +16,7 @@ mod tests {
 
     // The number of the refusal, if there is one.
     fn refused<T: Drop>(res: Result<T, Refusal>) -> Option<u8> {
-        res.err().map(|refusal| refusal.number())
+        res.err().map(Refusal::number)
     }
 
     fn has_pins(rt: &impl Abort, found: Option<Wiring>, pins: &[u8]) -> Result<(), Fail> {
@@ -140,7 +140,9 @@ mod tests {
         card[683..].fill(ON);
         let mut part = [OFF; 1024];
         for (r, row) in card.iter().enumerate() {
-            part[wiring.carry(r)] = *row;
+            let q = wiring.carry(r);
+            assert!(rt; q < 1024);
+            part[q] = *row;
         }
         let card = Table {
             inputs: 10,
