@@ -1,14 +1,12 @@
 -- The pairs of an input and a pin, one after the other.
-use Rattle.std.proofs.Common.{◌≡◌, ℕ, ◌+◌, ◌<◌, ◌≤◌, Bool, true, false, not, ◌&&◌, ◌||◌, eqb, ltb, List, [], length, get_or, take, count_by, ap, ◌∙◌, ⊎_elim, arith}
-use Rattle.std.proofs.lemmas.List.Sums.{sum_by_more}
+use Rattle.std.proofs.Common.{◌≡◌, ℕ, ◌+◌, ◌<◌, ◌≤◌, Bool, true, false, not, ◌&&◌, ◌||◌, eqb, ltb, List, ap, ◌∙◌, ⊎_elim, arith}
 use Rattle.std.proofs.lemmas.Bool.{cases_eq}
 use Rattle.std.proofs.lemmas.Bool.Decides.{nat_tests}
 use Rattle.matching.specs.Struck.{struck, Strike}
 use Rattle.lists.specs.Lists.{list, equal}
-use Rattle.lists.specs.Pairs.{unequal, struck_pairs}
-use Rattle.lists.specs.Spread.{times}
+use Rattle.lists.specs.Pairs.{unequal}
 use Rattle.lists.specs.declared.lists.Lists.{Lists}
-use Rattle.lists.proofs.Times.{equal_decides, times_others}
+use Rattle.lists.proofs.Times.{equal_decides}
 
 module _ (card part : Lists) where
   pub unequal_here : (i p : ℕ) (r : Bool) → i < card.inputs → p < part.inputs → r ≡ equal (list card i) (list part p) → unequal card part i p ≡ not r
@@ -39,8 +37,3 @@ module _ (card part : Lists) where
 
   pub upto_all : (i : ℕ) (strikes : List (List Bool)) → Upto i 0 strikes → card.inputs ≤ i → (a b : ℕ) → struck strikes a b ≡ unequal card part a b
   upto_all i strikes h le a b = h a b ∙ grind (arith, nat_tests)
-
--- an input more: t pins have its list, and the others are struck for it
-pub struck_pairs_more : (inputs pins : List (List ℕ)) (i t : ℕ) → i < length inputs → t ≡ times (get_or inputs i []) pins → struck_pairs (take (i + 1) inputs) pins + t ≡ struck_pairs (take i inputs) pins + length pins
-struck_pairs_more inputs pins i t lt e =
-    omega (arith, sum_by_more (λ x. count_by (λ y. not (equal x y)) pins) inputs i [] lt, times_others (get_or inputs i []) pins)

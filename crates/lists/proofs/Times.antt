@@ -1,11 +1,11 @@
 -- How often a list occurs.
-use Rattle.std.proofs.Common.{◌≡◌, ℕ, ◌+◌, ◌<◌, ◌≤◌, Bool, cond, not, eqb, ◌⊎◌, List, [], ◌∷◌, ◌++◌, length, get_or, drop, Decides, count_by, sym, refl, ap, ◌∙◌, subst, inl, inr, ⊎_elim, arith, rules}
+use Rattle.std.proofs.Common.{◌≡◌, ℕ, ◌+◌, ◌<◌, ◌≤◌, Bool, cond, not, eqb, ◌⊎◌, List, [], ◌∷◌, ◌++◌, length, get_or, Decides, count_by, sym, refl, ap, ◌∙◌, subst, inl, inr, ⊎_elim, arith, rules}
 use Rattle.std.specs.Cmp.Lexicographic.{pointwise, bytes_decides}
 use Rattle.std.specs.List.{list_all}
 use Rattle.std.proofs.ByRecursion.{All-from_get_or, Decides-by_and}
 use Rattle.std.proofs.lemmas.Slice.Eq.{compares_Decides}
 use Rattle.std.proofs.lemmas.List.Filters.{length-filter_both}
-use Rattle.std.proofs.lemmas.List.Sums.{sum_by-append, sum_by-cons, sum_by-drop_more, length-filter}
+use Rattle.std.proofs.lemmas.List.Sums.{sum_by-append, sum_by-cons, length-filter}
 use Rattle.std.proofs.lemmas.Bool.{cases_Bool, cases_eq, cases_lt, cond-true, cond-false}
 use Rattle.std.proofs.lemmas.Bool.Decides.{same_from_decides, not_from_Decides, Decides-eqb, Decides-like}
 use Rattle.lists.specs.Lists.{equal}
@@ -35,9 +35,6 @@ one_other x y ne = ⊎_elim (λ t. absurd (ne ((equal_decides x y).0 t))) (cond-
 
 pub times_cons : (x y : List ℕ) (ys : List (List ℕ)) → times x (y ∷ ys) ≡ one x y + times x ys
 times_cons x y ys = sum_by-cons (one x) y ys
-
-pub times_drop_more : (x : List ℕ) (xs : List (List ℕ)) (i : ℕ) (r : Bool) → i < length xs → r ≡ equal x (get_or xs i []) → times x (drop i xs) ≡ cond r 1 0 + times x (drop (i + 1) xs)
-times_drop_more x xs i r lt e = sum_by-drop_more (one x) xs i [] lt ∙ ap (λ b. cond b 1 0 + times x (drop (i + 1) xs)) (sym e)
 
 -- the lists that are not x
 pub times_others : (x : List ℕ) (xs : List (List ℕ)) → count_by (λ y. not (equal x y)) xs + times x xs ≡ length xs

@@ -24,7 +24,7 @@ pub fn spread(card: &Lists, part: &Lists) -> u32
             return 0;
         }
         // As many pins with this list are still free as this input and the later ones have it.
-        let later = card.times(list, input + 1);
+        let later = card.times(list, input + 1) as u32;
         product *= 1 + later;
     }
     product

@@ -28,10 +28,7 @@ pub fn strikes(card: &Lists, part: &Lists) -> Strikes
 pub fn struck_count(card: &Lists, part: &Lists) -> usize
     ensures { result ≡ struck_pairs (lists card.now) (lists part.now) }
 {
-    let mut count = 0;
-    for input in 0..card.inputs {
-        let fitting = part.times(card.list(input), 0) as usize;
-        count += part.inputs - fitting;
-    }
-    count
+    (0..card.inputs)
+        .map(|input| part.inputs - part.times(card.list(input), 0))
+        .sum()
 }

@@ -1,4 +1,4 @@
-ghost use Rattle.std.specs.Prelude.{◌≡◌, drop, Decides};
+ghost use Rattle.std.specs.Prelude.{◌≡◌, ◌≤◌, drop, Decides};
 ghost use Rattle.lists.specs.Lists.{list, lists, equal};
 ghost use Rattle.lists.specs.Spread.{times};
 
@@ -25,15 +25,12 @@ impl Lists {
     }
 
     // How often a list occurs among the inputs from `from` on.
-    pub(crate) fn times(&self, sought: &[u32], from: usize) -> u32
-        ensures { result ≡ times sought.now (drop from (lists self.now)) }
+    pub(crate) fn times(&self, sought: &[u32], from: usize) -> usize
+        ensures count { result ≡ times sought.now (drop from (lists self.now)) }
+        ensures few { result ≤ self.now.inputs }
     {
-        let mut times = 0;
-        for input in from..self.inputs {
-            if sought == self.list(input) {
-                times += 1;
-            }
-        }
-        times
+        (from..self.inputs)
+            .filter(|&input| sought == self.list(input))
+            .count()
     }
 }

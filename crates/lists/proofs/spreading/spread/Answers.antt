@@ -25,12 +25,12 @@ pub returns-then-times : goal.returns-then-times
 returns-then-times c =
     let card = c.args.card.now in
     let part = c.args.part.now in
-    let e = sym (spread_zero (lists card) (lists part) (λ h. omega (arith, c.times.ensures, h c.list-list.result.now, c.times-in-loop-input.ensures, c.if-times.true))) in
+    let e = sym (spread_zero (lists card) (lists part) (λ h. omega (arith, c.times.ensures.count, h c.list-list.result.now, c.times-in-loop-input.ensures.count, c.if-times.true))) in
     record { formula = e; uneven = λ _. refl; bound = bound card part 0 e }
 
 -- the turn of an input
 later : (c : goal.After-times-later) → c.times-later.result ≡ times (list c.args.card.now c.loop-input.input) (drop (c.loop-input.input + 1) (lists c.args.card.now))
-later c = c.times-later.ensures ∙ ap (λ x. times x (drop (c.loop-input.input + 1) (lists c.args.card.now))) c.list-list.ensures
+later c = c.times-later.ensures.count ∙ ap (λ x. times x (drop (c.loop-input.input + 1) (lists c.args.card.now))) c.list-list.ensures
 
 more : (c : goal.After-times-later) → c.loop-input.product * (1 + c.times-later.result) * running (drop (c.loop-input.input + 1) (lists c.args.card.now)) ≡ running (lists c.args.card.now)
 more c = running_more (lists c.args.card.now) c.loop-input.input c.loop-input.product c.times-later.result (omega (arith, length-lists c.args.card.now)) (later c) c.loop-input.invariant.0
@@ -44,8 +44,8 @@ pub loop-input-preserved : goal.loop-input-preserved
 loop-input-preserved c = (
   more c,
   below_more _ _ c.loop-input.invariant.1
-      (ap (λ x. times x (lists c.args.card.now)) (sym c.list-list.ensures) ∙ sym c.times.ensures ∙ c.if-times.false
-      ∙ c.times-in-loop-input.ensures ∙ ap (λ x. times x (lists c.args.part.now)) c.list-list.ensures),
+      (ap (λ x. times x (lists c.args.card.now)) (sym c.list-list.ensures) ∙ sym c.times.ensures.count ∙ c.if-times.false
+      ∙ c.times-in-loop-input.ensures.count ∙ ap (λ x. times x (lists c.args.part.now)) c.list-list.ensures),
 )
 
 pub returns : goal.returns

@@ -1,17 +1,21 @@
-use Rattle.std.proofs.Common.{ℕ, arith}
-use Rattle.std.proofs.lemmas.Bool.{cond-true, cond-false}
-use Rattle.lists.specs.Lists.{lists}
-use Rattle.lists.proofs.Rows.{length-lists}
-use Rattle.lists.proofs.Times.{equal_from_eq, times_drop_more}
+use Rattle.std.proofs.Common.{ℕ, ◌-◌, Bool, [], refl, ◌∙◌, arith, rules, tests}
+use Rattle.std.specs.List.{range_with_len}
+use Rattle.std.proofs.lemmas.Iterator.{YieldsList-from_range}
+use Rattle.std.proofs.lemmas.Iterator.Consumers.{YieldsList-from_filter, count_from_yields_List}
+use Rattle.std.proofs.lemmas.List.Sums.{length-filter}
+use Rattle.lists.specs.Lists.{list, lists, equal}
+use Rattle.lists.proofs.Rows.{length-lists, sum_from}
+use Rattle.lists.proofs.Times.{equal_from_eq, one}
 use Rattle.lists.proofs.lists.Lists.times.Goals as goal
-use Rattle.lists.proofs.lists.Lists.times.Goals.{then-eq, else-eq}
 
-pub loop-input-preserved : goal.loop-input-preserved
-loop-input-preserved c =
+pub returns-clause-count : goal.returns-clause-count
+returns-clause-count c =
     let x = c.args.sought.now in
     let t = c.args.self.now in
-    let more = times_drop_more x (lists t) c.loop-input.input c.eq.result (omega (arith, length-lists t, c.loop-input-test.true)) (equal_from_eq x c.list.result.now _ c.eq.result c.eq.ensures c.list.ensures) in
-    elim c.if-eq.branch [
-      | then-eq way ↦ (omega (arith, way.times-is), omega (arith, way.times-is, more, cond-true {A = ℕ} c.eq.result 1 0 way.if-eq.true))
-      | else-eq way ↦ (omega (arith, way.times-is), omega (arith, way.times-is, more, cond-false {A = ℕ} c.eq.result 1 0 way.if-eq.false))
-    ]
+    let from = c.args.from in
+    let held : ℕ → Bool = λ i. equal x (list t i) in
+    count_from_yields_List c.filter.result c.count.result c.count.ensures.ran
+    (YieldsList-from_filter _ held (YieldsList-from_range from t.inputs (t.inputs - from) (cc) refl) c.filter.ensures.closure
+    (λ i r q k. (search (rules, tests), equal_from_eq x (list t i) (list t i) r (search (rules, tests)) refl)))
+    ∙ length-filter held (range_with_len from (t.inputs - from))
+    ∙ sum_from (one x) [] (lists t) from (t.inputs - from) (omega (arith, length-lists t))
