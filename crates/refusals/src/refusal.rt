@@ -8,6 +8,7 @@ use std::fmt;
 // Why a call was refused. Each case has a fixed number, by which every layer and every answer text knows it.
 #[derive(Clone, Copy, PartialEq, Eq, Debug)]
 pub enum Refusal {
+    NotAForm = 1,
     NotAPartNumber = 2,
     TooManyInputs = 3,
     WrongRowCount = 4,
@@ -17,6 +18,8 @@ pub enum Refusal {
     ShelfFull = 8,
     NumberDoesNotStand = 9,
     NoPartAgrees = 10,
+    WrongTrialCount = 11,
+    ReadingDiffers = 12,
     MemoryTooShort = 13,
     NotAWiring = 14,
 }
@@ -33,6 +36,7 @@ impl Refusal {
         ensures { result.now ≡ text self }
     {
         match self {
+            Refusal::NotAForm => "the text is none of the forms",
             Refusal::NotAPartNumber => "a part's number is from 1 to 9999",
             Refusal::TooManyInputs => "a table has at most ten inputs",
             Refusal::WrongRowCount => "a table of n inputs has 2^n rows",
@@ -44,7 +48,9 @@ impl Refusal {
             Refusal::ShelfFull => "each slot has its part",
             Refusal::NumberDoesNotStand => "no part of this number stands",
             Refusal::NoPartAgrees => "no standing part agrees with the card",
-            Refusal::MemoryTooShort => "the memory for answers is too short",
+            Refusal::WrongTrialCount => "a trial takes 2^n rows and as many readings",
+            Refusal::ReadingDiffers => "a reading differs from the card's row",
+            Refusal::MemoryTooShort => "the memory for the answer is too short",
             Refusal::NotAWiring => "a wiring names each pin below n once",
         }
     }
