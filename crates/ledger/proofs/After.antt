@@ -1,7 +1,7 @@
 -- Every call leaves each number standing once.
 use Rattle.std.proofs.Common.{◌≡◌, ℕ, leb, List, [], ◌∷◌, length, refl}
 use Rattle.refusals.specs.Due.{Due, none, refusal}
-use Rattle.ledger.specs.Ledger.{Part, Call, enter, remove, fit, spread, stands, unless, due, granted, after, ledger_from}
+use Rattle.ledger.specs.Ledger.{Part, Call, enter, remove, fit, spread, unread, stands, unless, due, granted, after, ledger_from}
 use Rattle.ledger.specs.Fixed.{Once}
 use Rattle.ledger.proofs.Dues.{enter_new}
 use Rattle.ledger.proofs.Standing.{once_without}
@@ -19,6 +19,7 @@ module _ {R : Type 0} where
     once_granted parts (remove number) e once = once_without number parts once
     once_granted parts (fit inputs card pile) e once = once
     once_granted parts (spread number inputs card pile) e once = once
+    once_granted parts (unread number) e once = once
 
     pub once_after : (parts : List (Part R)) (call : Call R P) → Once parts → Once (after slots parts call)
     once_after parts call once = unless_holds Once (due slots parts call) (granted parts call) parts (λ e. once_granted parts call e once) once

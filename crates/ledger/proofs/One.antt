@@ -3,7 +3,7 @@ use Rattle.std.proofs.Common.{◌≡◌, ℕ, Bool, List, [], ◌∷◌, length,
 use Rattle.refusals.specs.Due.{Due, none, refusal}
 use Rattle.tables.specs.Wirings.{pin}
 use Rattle.lists.specs.Counting.{Mem}
-use Rattle.ledger.specs.Ledger.{Part, Call, enter, remove, fit, spread, due, after}
+use Rattle.ledger.specs.Ledger.{Part, Call, enter, remove, fit, spread, unread, due, after}
 use Rattle.ledger.specs.Law.{Answer, refused, proposed, measured, NoPart, Proposes, Spreads, Granted, Right, Answered}
 use Rattle.ledger.specs.Fixed.{Once, StandOnce, OneAnswer, OneTranscript, TenExactly}
 use Rattle.ledger.proofs.Standing.{mem_once}
@@ -67,6 +67,7 @@ module _ {R P : Type 0} (same : R → R → Bool) (list : P → ℕ → List R �
   one_granted parts (fit inputs card pile) a b once x y = one_fit parts inputs card pile a b x y
   one_granted parts (spread number inputs card pile) a b once x y =
       x.1 ∙ ap measured (one_spread parts inputs card pile once x.2 y.2) ∙ sym y.1
+  one_granted parts (unread number) a b once x y = absurd x
 
   one_right : (d : Due) (parts : List (Part R)) (call : Call R P) (a b : Answer) → Once parts
       → Right same list d parts call a → Right same list d parts call b → a ≡ b

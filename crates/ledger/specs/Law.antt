@@ -8,7 +8,7 @@ use Rattle.lists.specs.Counting.{Mem, AtMost}
 use Rattle.lists.specs.Pairs.{struck_pairs}
 use Rattle.lists.specs.Spread.{spread as spread_of}
 use Rattle.signatures.specs.Law.{list_of}
-use Rattle.ledger.specs.Ledger.{Part, Call, enter, remove, fit, spread, due, after}
+use Rattle.ledger.specs.Ledger.{Part, Call, enter, remove, fit, spread, unread, due, after}
 
 -- list n rows i, for a pile of so many places that answers so: the list of input i of a table of n inputs
 abbrev pub list_by : {R P : Type 0} → (P → ℕ) → (P → ℕ → List R → ℕ → ℕ → ℕ) → P → ℕ → List R → ℕ → List ℕ
@@ -70,6 +70,7 @@ module _ {R P : Type 0} (same : R → R → Bool) (list : P → ℕ → List R �
       ⊎ ((number : ℕ) × (pins : List ℕ) × (struck : ℕ) × (answer ≡ proposed number inputs pins struck) × (length pins ≡ inputs) × Proposes (λ part. Mem part parts) inputs card pile number (pin pins) struck)
   Granted parts (spread number inputs card pile) answer =
       (k : ℕ) × (answer ≡ measured k) × Spreads (λ part. Mem part parts) inputs card pile number k
+  Granted parts (unread number) answer = ⊥
 
   abbrev pub Right : Due → List (Part R) → Call R P → Answer → Type 0
   Right none parts call answer = Granted parts call answer

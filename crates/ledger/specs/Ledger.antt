@@ -10,12 +10,14 @@ pub record Part (R : Type 0) : Type 0 where
   pub inputs : ℕ
   pub rows : List R
 
--- what is asked of a shelf of rows R; a fit and a spread bring their pile P
+-- what is asked of a shelf of rows R; a fit and a spread bring their pile P. A line that is read as none of the others
+-- is a call too, which is refused under this number
 pub data Call (R P : Type 0) : Type 0 where
   enter : (number inputs : ℕ) → List R → Call R P
   remove : (number : ℕ) → Call R P
   fit : (inputs : ℕ) → List R → P → Call R P
   spread : (number inputs : ℕ) → List R → P → Call R P
+  unread : ℕ → Call R P
 
 -- whether one of a list passes a test
 abbrev pub any : {X : Type 0} → (X → Bool) → List X → Bool
@@ -43,6 +45,7 @@ module _ {R : Type 0} where
     due slots parts (remove number) = drop_due none (stands number parts) number
     due slots parts (fit inputs card pile) = fit_due none inputs (length card)
     due slots parts (spread number inputs card pile) = spread_due none (stands number parts) number inputs (length card)
+    due slots parts (unread number) = refusal number
 
     -- the parts that stand after a call that is granted
     abbrev pub granted : List (Part R) → Call R P → List (Part R)
@@ -50,6 +53,7 @@ module _ {R : Type 0} where
     granted parts (remove number) = without number parts
     granted parts (fit inputs card pile) = parts
     granted parts (spread number inputs card pile) = parts
+    granted parts (unread number) = parts
 
     -- the parts that stand after a call: a refused one changes nothing
     abbrev pub after : ℕ → List (Part R) → Call R P → List (Part R)
