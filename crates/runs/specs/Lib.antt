@@ -1,3 +1,4 @@
 pub mod Transcript
+pub mod Calls
 pub mod Holding
 pub mod Playing

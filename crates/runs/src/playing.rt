@@ -1,8 +1,8 @@
-ghost use Rattle.std.specs.Prelude.{◌≡◌, ◌*◌, map, length};
+ghost use Rattle.std.specs.Prelude.{map};
 ghost use Rattle.ledger.specs.Law.{list_by};
 ghost use Rattle.runs.specs.Transcript.{said, told, answered};
 ghost use Rattle.runs.specs.declared.answer.Grant.TheVariants.{Done, Proposed, Spread};
-ghost use Rattle.runs.specs.Holding.{Leads};
+ghost use Rattle.runs.specs.Calls.{Does};
 ghost use Rattle.runs.specs.Playing.{Played, Opened};
 
 use crate::answer::{Answer, Grant};
@@ -12,14 +12,13 @@ use refusals::Refusal;
 use rows::RowKind;
 use signatures::Signature;
 
-// One call on memory of the right length.
+// One call.
 fn obey<R: RowKind, P: Signature<R>>(
     shelf: &mut Shelf,
     memory: &mut [R],
     call: &Call<'_, R, P>,
 ) -> Answer
-    requires { length memory.old ≡ shelf.old.count * 1024 }
-    ensures { Leads R.RowKind.same (list_by P.Signature.count P.Signature.value) shelf.old memory.old (said call.now) (told result) shelf.new memory.new }
+    ensures { Does R.RowKind.same (list_by P.Signature.count P.Signature.value) shelf.old memory.old (said call.now) (told result) shelf.new memory.new }
 {
     match *call {
         Call::Enter {
