@@ -1,0 +1,2 @@
+pub mod Pins
+pub mod Copying

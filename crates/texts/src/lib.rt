@@ -1,0 +1,5 @@
+#![tactic(auto)]
+
+mod text;
+
+pub use text::Text;

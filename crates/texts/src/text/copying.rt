@@ -1,0 +1,38 @@
+ghost use Rattle.std.specs.Prelude.{◌≡◌, ◌≤◌, ◌==◌, length};
+ghost use Rattle.texts.specs.Copying.{Copied};
+
+use crate::text::Text;
+use refusals::Refusal;
+
+impl Text {
+    pub fn len(&self) -> usize
+        ensures value { result ≡ length self.now }
+        ensures few { result ≤ 64 }
+    {
+        self.as_bytes().len()
+    }
+
+    pub fn is_empty(&self) -> bool
+        ensures { result ≡ (length self.now == 0) }
+    {
+        self.len == 0
+    }
+
+    pub fn as_bytes(&self) -> &[u8]
+        ensures value { result.now ≡ self.now }
+        ensures few { length result.now ≤ 64 }
+    {
+        &self.bytes[..self.len]
+    }
+
+    // Writes the text into the front of the memory, and answers how long it is.
+    pub fn copy_into(&self, memory: &mut [u8]) -> Result<usize, Refusal>
+        ensures { Copied self.now memory.old result memory.new }
+    {
+        if memory.len() < self.len {
+            return Err(Refusal::MemoryTooShort);
+        }
+        memory[..self.len].copy_from_slice(self.as_bytes());
+        Ok(self.len)
+    }
+}

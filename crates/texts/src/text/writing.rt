@@ -1,0 +1,48 @@
+ghost use Rattle.std.specs.Prelude.{◌≡◌, ◌+◌, ◌≤◌, [], ◌++◌, length};
+ghost use Rattle.std.specs.Fmt.{decimal};
+ghost use Rattle.texts.specs.Pins.{pins_text};
+
+use crate::text::Text;
+
+impl Text {
+    pub fn empty() -> Text
+        ensures { result ≡ [] }
+    {
+        Text {
+            bytes: [0; 64],
+            len: 0,
+        }
+    }
+
+    // What is put has to have room: whoever puts a text together knows how long it can get.
+    pub fn put(&mut self, bytes: &[u8])
+        requires { length self.old + length bytes.now ≤ 64 }
+        ensures { self.new ≡ self.old ++ bytes.now }
+    {
+        let end = self.len + bytes.len();
+        self.bytes[self.len..end].copy_from_slice(bytes);
+        self.len = end;
+    }
+
+    // The number's decimal digits.
+    pub fn put_number(&mut self, number: u32)
+        requires { length self.old + length (decimal number) ≤ 64 }
+        ensures { self.new ≡ self.old ++ decimal number }
+    {
+        if number >= 10 {
+            self.put_number(number / 10);
+        }
+        self.put(&[b'0' + (number % 10) as u8]);
+    }
+
+    // Each pin after a space: the inside of a to-list.
+    pub fn put_pins(&mut self, pins: &[u8])
+        requires { length self.old + length (pins_text pins.now) ≤ 64 }
+        ensures { self.new ≡ self.old ++ pins_text pins.now }
+    {
+        for pin in pins {
+            self.put(b" ");
+            self.put_number(u32::from(*pin));
+        }
+    }
+}
