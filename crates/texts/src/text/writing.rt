@@ -17,7 +17,8 @@ impl Text {
     // What is put has to have room: whoever puts a text together knows how long it can get.
     pub fn put(&mut self, bytes: &[u8])
         requires { length self.old + length bytes.now ≤ 64 }
-        ensures { self.new ≡ self.old ++ bytes.now }
+        ensures text { self.new ≡ self.old ++ bytes.now }
+        ensures len { length self.new ≡ length self.old + length bytes.now }
     {
         let end = self.len + bytes.len();
         self.bytes[self.len..end].copy_from_slice(bytes);
@@ -27,7 +28,8 @@ impl Text {
     // The number's decimal digits.
     pub fn put_number(&mut self, number: u32)
         requires { length self.old + length (decimal number) ≤ 64 }
-        ensures { self.new ≡ self.old ++ decimal number }
+        ensures text { self.new ≡ self.old ++ decimal number }
+        ensures len { length self.new ≡ length self.old + length (decimal number) }
     {
         if number >= 10 {
             self.put_number(number / 10);
@@ -38,7 +40,8 @@ impl Text {
     // Each pin after a space: the inside of a to-list.
     pub fn put_pins(&mut self, pins: &[u8])
         requires { length self.old + length (pins_text pins.now) ≤ 64 }
-        ensures { self.new ≡ self.old ++ pins_text pins.now }
+        ensures text { self.new ≡ self.old ++ pins_text pins.now }
+        ensures len { length self.new ≡ length self.old + length (pins_text pins.now) }
     {
         for pin in pins {
             self.put(b" ");

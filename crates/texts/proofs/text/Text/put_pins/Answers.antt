@@ -13,4 +13,4 @@ pub put-requires : goal.put-requires
 put-requires c = rw c.loop-pin.invariant (omega (arith, room _ _ _ c.loop-pin-test.true c.requires))
 
 pub put_number-requires : goal.put_number-requires
-put_number-requires c = rw (c.put.ensures, c.from.ensures, c.loop-pin.invariant) (omega (arith, length-append (c.args.self.now ++ pins_text (take c.loop-pin.pin-index c.args.pins.now)) (codes " "), room _ _ _ c.loop-pin-test.true c.requires))
+put_number-requires c = rw (c.put.ensures.len, c.from.ensures, c.loop-pin.invariant) (omega (arith, room _ _ _ c.loop-pin-test.true c.requires))

@@ -1,0 +1,7 @@
+#![tactic(auto)]
+
+mod reply;
+mod spelling;
+
+pub use reply::Reply;
+pub use spelling::answer_text;
