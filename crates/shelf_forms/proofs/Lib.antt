@@ -1,0 +1,2 @@
+pub mod Texts
+mod OneForm
