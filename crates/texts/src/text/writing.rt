@@ -26,6 +26,7 @@ impl Text {
     }
 
     // The number's decimal digits.
+    #[tactic(auto, using(crate::proofs::Lengths::steps))]
     pub fn put_number(&mut self, number: u32)
         requires { length self.old + length (decimal number) ≤ 64 }
         ensures text { self.new ≡ self.old ++ decimal number }
