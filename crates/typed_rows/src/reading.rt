@@ -1,4 +1,4 @@
-ghost use Rattle.typed_rows.specs.Reading.{IsRow, Read};
+ghost use Rattle.typed_rows.specs.Reading.{IsRow, Read, Copies};
 
 use crate::rows_error::RowsError;
 use rows::OnOff;
@@ -24,6 +24,19 @@ pub fn rows_from(heap: Global, text: &str) -> Result<Vec<OnOff>, RowsError>
         rows.push(row)?;
     }
     Ok(rows)
+}
+
+// Writes the rows that digits 0 and 1 spell into the front of the room, row 0 first.
+pub fn copy_rows(digits: &[u8], room: &mut [OnOff]) -> Option<()>
+    ensures { Copies digits.now room.old room.new result }
+{
+    if digits.len() > room.len() {
+        return None;
+    }
+    for (i, byte) in digits.iter().enumerate() {
+        room[i] = row_of(*byte)?;
+    }
+    Some(())
 }
 
 #[cfg(test)]

@@ -1,18 +1,11 @@
-use Rattle.std.proofs.Common.{◌≡◌, ℕ, ◌<◌, List, None, length, get_or, sym, ap, ◌∙◌, arith}
+use Rattle.std.proofs.Common.{◌≡◌, None}
 use Rattle.std.proofs.lemmas.Iterator.Consumers.{YieldsList-turn}
 use Rattle.std.proofs.lemmas.Iterator.Adapters.{YieldsList-from_bytes}
-use Rattle.std.proofs.lemmas.List.{get_or-map, length-map}
 use Rattle.std.proofs.lemmas.Result.{err_from_is_err_and}
-use Rattle.rows.specs.declared.on_off.OnOff.TheVariants.{Off}
 use Rattle.typed_rows.specs.declared.rows_error.RowsError.TheVariants.{NotDigits}
-use Rattle.typed_rows.specs.Reading.{digit, IsRow, SpellsNone}
+use Rattle.typed_rows.specs.Reading.{IsRow}
+use Rattle.typed_rows.proofs.Spelling.{spells_none}
 use Rattle.typed_rows.proofs.reading.rows_from.Goals as goal
-
--- where a byte of a text is no row's digit, no rows spell the text
-spells_none : (text : List ℕ) (i byte : ℕ) → (i < length text) × (byte ≡ get_or text i byte) → IsRow byte None → SpellsNone text
-spells_none text i byte at none rows e =
-    let lt : i < length rows = omega (arith, at.0, ap length e, length-map rows digit) in
-    none (get_or rows i Off) (sym (get_or-map digit rows i Off byte lt) ∙ ap (λ l. get_or l i byte) (sym e) ∙ sym at.1)
 
 pub returns-in_err-row : goal.returns-in_err-row
 returns-in_err-row c =
