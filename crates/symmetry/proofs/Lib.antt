@@ -1,0 +1,3 @@
+pub mod Exchanges
+pub mod Symmetries
+pub mod Vectors

@@ -1,0 +1,3 @@
+pub mod Symmetry
+pub mod Writing
+pub mod Published
