@@ -1,6 +1,7 @@
 -- Symmetry of the inputs of a table.
-use Rattle.std.proofs.Common.{◌≡◌, ℕ, ◌^◌, ◌<◌, ◌≤◌, Bool, true, List, get_or, sym, refl, ap, ◌∙◌, ⊎_elim, arith}
-use Rattle.std.proofs.lemmas.Bool.{cases_eq}
+use Rattle.std.proofs.Common.{◌≡◌, ℕ, ◌^◌, ◌<◌, ◌≤◌, Bool, true, Option, Some, None, List, get_or, sym, refl, ap, ◌∙◌, ⊎_elim, arith}
+use Rattle.std.proofs.lemmas.Bool.{cases_eq, cases_lt}
+use Rattle.std.specs.Option.{MatchOption, unwrap_or}
 use Rattle.rows.specs.Laws.{RowKindLaws}
 use Rattle.tables.specs.Agreement.{bit}
 use Rattle.tables.proofs.Digits.{bit_lt}
@@ -66,3 +67,16 @@ module _ {R : Type 0} (same : R → R → Bool) (weight : R → ℕ) (laws : Row
 
   pub one_class : (i k c e : ℕ) → i < n → k < n → Class same n rows i c → Class same n rows k e → Symmetric same n rows i k → c ≡ e
   one_class i k c e li lk x y s = omega (arith, class_below i k c e li lk x y s, class_below k i e c lk li y x (symmetric i k s))
+
+  -- the lowest of the inputs below i that are symmetric with it, or else i
+  pub class_found : (i : ℕ) → i < n → (found : Option ℕ) → MatchOption found ((k : ℕ) → 0 ≤ k → k < i → k < n → Symmetric same n rows i k → ⊥) (λ c. (0 ≤ c) × (c < i) × (c < n → Symmetric same n rows i c) × ((k : ℕ) → 0 ≤ k → k < c → k < n → Symmetric same n rows i k → ⊥)) → Class same n rows i (unwrap_or found i)
+  class_found i li None none = record {
+    symmetric = reflexive i;
+    counted = omega arith;
+    lowest = λ j lj s. ⊎_elim (λ below. absurd (none j (omega arith) below lj s)) (λ above. above) (cases_lt j i);
+  }
+  class_found i li (Some c) f = record {
+    symmetric = f.2 (omega (arith, f.1, li));
+    counted = omega (arith, f.1);
+    lowest = λ j lj s. ⊎_elim (λ below. absurd (f.3 j (omega arith) below lj s)) (λ above. above) (cases_lt j c);
+  }

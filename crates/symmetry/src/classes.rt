@@ -12,12 +12,9 @@ fn class_of<R: RowKind>(table: &Table<R>, input: usize) -> usize
     requires { input < table.now.inputs }
     ensures { Class R.RowKind.same table.now.inputs table.now.rows.now input result }
 {
-    for lower in 0..input {
-        if are_symmetric(table, input, lower) {
-            return lower;
-        }
-    }
-    input
+    (0..input)
+        .find(|&lower| are_symmetric(table, input, lower))
+        .unwrap_or(input)
 }
 
 // The class of each input of a table, and 255 in the places that have no input.
@@ -25,8 +22,8 @@ pub fn classes_of<R: RowKind>(table: &Table<R>) -> [u8; 10]
     ensures { Classes R.RowKind.same table.now.inputs table.now.rows.now result }
 {
     let mut classes = [255; 10];
-    for input in 0..table.inputs {
-        classes[input] = class_of(table, input) as u8;
+    for (input, class) in classes[..table.inputs].iter_mut().enumerate() {
+        *class = class_of(table, input) as u8;
     }
     classes
 }
