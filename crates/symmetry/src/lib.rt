@@ -11,7 +11,7 @@ pub use published::symmetry_is_classical;
 mod tests {
     use super::*;
     use refusals::Refusal;
-    use rows::{Direction, Drive, OnOff, RowKind};
+    use rows::{Drive, OnOff, RowKind};
     use std::process::Abort;
     use std::test::Fail;
 
