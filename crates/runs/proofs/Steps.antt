@@ -5,23 +5,16 @@ use Rattle.refusals.specs.Due.{Due, none, refusal}
 use Rattle.refusals.specs.Numbers.{number}
 use Rattle.tables.specs.Wirings.{pin, Alike}
 use Rattle.lists.specs.Counting.{Mem}
-use Rattle.ledger.specs.Ledger.{Part, Call, enter, remove, fit, spread, unread, stands, unless, due, granted, after}
+use Rattle.ledger.specs.Ledger.{Part, Call, enter, remove, fit, spread, unread, stands, unless, due, granted}
 use Rattle.ledger.specs.Law.{Answer, refused, proposed, Granted, Right}
 use Rattle.ledger.proofs.Dues.{enter_new, enter_whole}
 use Rattle.inventory.specs.Slots.{Held}
 use Rattle.inventory.specs.declared.shelf.Shelf.{Shelf}
 use Rattle.runs.specs.Calls.{Does}
-use Rattle.runs.specs.Holding.{Holds}
+use Rattle.runs.specs.Holding.{Holds, Leads}
 use Rattle.runs.proofs.Stock.{enter_same, drop_same, fit_same, spread_same}
 use Rattle.runs.proofs.Changes.{enter_holds, drop_holds}
 use Rattle.ledger.proofs.Serving.{no_part_over, proposes_over, proposes_alike, spreads_over}
-
--- whatever parts the shelf holds, the call is answered right for them, and then it holds the parts that the ledger has
-abbrev pub Leads : {R P : Type 0} → (R → R → Bool) → (P → ℕ → List R → ℕ → List ℕ) → Shelf → List R → Call R P → Answer → Shelf → List R → Type 0
-Leads {R} same list shelf memory call answer shelf' memory' =
-    (shelf'.count ≡ shelf.count)
-    × ((parts : List (Part R)) → Holds shelf.slots memory parts
-    → Right same list (due shelf.count parts call) parts call answer × Holds shelf'.slots memory' (after shelf.count parts call))
 
 module _ {R P : Type 0} (same : R → R → Bool) (list : P → ℕ → List R → ℕ → List ℕ) (before : Shelf) (memory : List R) where
   -- what a call leads to, by whether it is refused

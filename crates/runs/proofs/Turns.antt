@@ -6,8 +6,7 @@ use Rattle.ledger.specs.Ledger.{Part, Call, due, after, ledger_from}
 use Rattle.ledger.specs.Law.{Answer, Right, Answered}
 use Rattle.inventory.specs.declared.label.Label.{Label}
 use Rattle.inventory.specs.declared.shelf.Shelf.{Shelf}
-use Rattle.runs.specs.Holding.{Holds}
-use Rattle.runs.proofs.Steps.{Leads}
+use Rattle.runs.specs.Holding.{Holds, Leads}
 
 module _ {R P : Type 0} (same : R → R → Bool) (list : P → ℕ → List R → ℕ → List ℕ) (slots : ℕ) where
   -- one call more at the end

@@ -1,10 +1,12 @@
 -- What a shelf and its memory hold.
-use Rattle.std.specs.Prelude.{◌≡◌, List, length, is_some, count_by, Option}
+use Rattle.std.specs.Prelude.{◌≡◌, ℕ, Bool, List, length, is_some, count_by, Option}
 use Rattle.lists.specs.Counting.{Mem}
-use Rattle.ledger.specs.Ledger.{Part}
+use Rattle.ledger.specs.Ledger.{Part, Call, due, after}
+use Rattle.ledger.specs.Law.{Answer, Right}
 use Rattle.ledger.specs.Fixed.{Once}
 use Rattle.inventory.specs.Slots.{Held}
 use Rattle.inventory.specs.declared.label.Label.{Label}
+use Rattle.inventory.specs.declared.shelf.Shelf.{Shelf}
 
 -- the shelf holds exactly these parts, each number once, and as many slots are in use
 pub record Holds {R : Type 0} (slots : List (Option Label)) (memory : List R) (parts : List (Part R)) : Type 0 where
@@ -12,3 +14,10 @@ pub record Holds {R : Type 0} (slots : List (Option Label)) (memory : List R) (p
   pub listed : (part : Part R) → Held slots memory part → Mem part parts
   pub once : Once parts
   pub count : length parts ≡ count_by is_some slots
+
+-- whatever parts the shelf holds, the call is answered right for them, and then it holds the parts that the ledger has
+abbrev pub Leads : {R P : Type 0} → (R → R → Bool) → (P → ℕ → List R → ℕ → List ℕ) → Shelf → List R → Call R P → Answer → Shelf → List R → Type 0
+Leads {R} same list shelf memory call answer shelf' memory' =
+    (shelf'.count ≡ shelf.count)
+    × ((parts : List (Part R)) → Holds shelf.slots memory parts
+    → Right same list (due shelf.count parts call) parts call answer × Holds shelf'.slots memory' (after shelf.count parts call))

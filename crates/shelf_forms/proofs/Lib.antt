@@ -1,2 +1,2 @@
 pub mod Texts
-mod OneForm
+pub mod OneForm

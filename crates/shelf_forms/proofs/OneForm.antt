@@ -14,7 +14,7 @@ one_digit Off On e = absurd (omega arith)
 one_digit On Off e = absurd (omega arith)
 one_digit On On e = refl
 
-one_map : (xs ys : List OnOff) → map digit xs ≡ map digit ys → xs ≡ ys
+pub one_map : (xs ys : List OnOff) → map digit xs ≡ map digit ys → xs ≡ ys
 one_map [] [] e = refl
 one_map [] (y ∷ ys) e = cc
 one_map (x ∷ xs) [] e = cc

@@ -1,0 +1,6 @@
+#![tactic(auto)]
+
+mod answering;
+mod obeying;
+
+pub use answering::answer_line;
