@@ -2,5 +2,5 @@ pub mod Standing
 pub mod Dues
 pub mod After
 mod Orders
-mod One
+pub mod One
 pub mod Serving

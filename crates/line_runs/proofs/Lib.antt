@@ -1,0 +1,4 @@
+pub mod Lines
+pub mod Chain
+pub mod Telling
+pub mod One
