@@ -1,1 +1,6 @@
 pub mod Lengths
+pub mod Fronts
+pub mod Lists
+pub mod Kept
+pub mod Same
+pub mod Reading

@@ -13,10 +13,18 @@ use Rattle.wire_sheet.specs.declared.printing.TooShort.{TooShort}
 use Rattle.wire_sheet.specs.declared.bench.Stopped.{Stopped}
 use Rattle.wire_sheet.specs.declared.bench.Stopped.TheVariants as stopped
 
+-- a number of inputs, as in (pins 3), and what follows it
+abbrev pub inputs_text : ℕ → List ℕ → List ℕ
+inputs_text inputs tail = codes " (pins " ++ (decimal inputs ++ (codes ")" ++ tail))
+
+-- the pins of a to-list up to its end, and what follows it
+abbrev pub list_text : List ℕ → List ℕ → List ℕ
+list_text pins tail = pins_text pins ++ (codes ")" ++ tail)
+
 -- how a part's number, a number of inputs and a list of pins are written
 abbrev pub wire_text : ℕ → ℕ → List ℕ → List ℕ
 wire_text number inputs pins =
-    codes "(wire " ++ decimal number ++ codes " (pins " ++ decimal inputs ++ codes ") (to" ++ pins_text pins ++ codes "))\n"
+    codes "(wire " ++ (decimal number ++ inputs_text inputs (codes " (to" ++ list_text pins (codes ")\n")))
 
 -- the text of a sheet
 abbrev pub sheet_text : ℕ → Wiring → List ℕ

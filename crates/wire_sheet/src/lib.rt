@@ -1,7 +1,12 @@
 #![tactic(auto)]
 
 mod bench;
+mod phrases;
 mod printing;
+mod sheet;
+mod to_list;
+mod wire_line;
 
 pub use bench::{Stopped, try_and_print};
 pub use printing::{TooShort, print_sheet};
+pub use sheet::Sheet;

@@ -1,0 +1,61 @@
+ghost use Rattle.std.specs.Prelude.{◌≡◌, ◌≢◌, ◌<◌, ◌++◌, ℕ, List, MatchOption, codes};
+ghost use Rattle.std.specs.List.{All};
+ghost use Rattle.tokens.specs.Cursors.{rest};
+ghost use Rattle.wire_sheet.specs.Lines.{IsShort, kept};
+ghost use Rattle.wire_sheet.specs.Sheets.{inputs_text, list_text};
+
+use crate::phrases::{end, number, open};
+use crate::to_list::ToList;
+use tokens::{Cursor, Sign, Word};
+
+// The number of inputs, as in ` (pins 3)`.
+fn inputs(cursor: &mut Cursor) -> Option<usize>
+    ensures { MatchOption result ((n : ℕ) (tail : List ℕ) → IsShort n → rest cursor.old ≢ inputs_text n tail) (λ n. IsShort n × (rest cursor.old ≡ inputs_text n (rest cursor.new))) }
+{
+    cursor.sign(Sign::Space)?;
+    open(cursor, Word::Pins)?;
+    let inputs = number(cursor)?;
+    cursor.sign(Sign::Close)?;
+    Some(inputs as usize)
+}
+
+// The pins up to the bracket that closes the list.
+fn pins(cursor: &mut Cursor) -> Option<ToList>
+    ensures { MatchOption result ((pins tail : List ℕ) → All IsShort pins → rest cursor.old ≢ list_text pins tail) (λ list. (pins : List ℕ) × All IsShort pins × (list ≡ kept pins) × (rest cursor.old ≡ list_text pins (rest cursor.new))) }
+{
+    let mut list = ToList::empty();
+    while cursor.sign(Sign::Close).is_none() {
+        list.push(number(cursor)?);
+    }
+    Some(list)
+}
+
+// What a wire line says, so far as it can make a sheet.
+#[derive(Drop)]
+pub struct WireLine {
+    pub number: u32,
+    pub inputs: usize,
+    pub list: ToList,
+}
+
+impl WireLine {
+    ghost use Rattle.wire_sheet.specs.Lines.{Said, Spells, Holds};
+
+    pub fn read(line: &[u8]) -> Option<WireLine>
+        ensures { MatchOption result ((said : Said) → ¬ (Spells line.now said)) (λ held. (said : Said) × Spells line.now said × Holds held said) }
+    {
+        let mut cursor = Cursor::new(line);
+        open(&mut cursor, Word::Wire)?;
+        let number = number(&mut cursor)?;
+        let inputs = inputs(&mut cursor)?;
+        cursor.sign(Sign::Space)?;
+        open(&mut cursor, Word::To)?;
+        let list = pins(&mut cursor)?;
+        end(cursor)?;
+        Some(WireLine {
+            number,
+            inputs,
+            list,
+        })
+    }
+}
