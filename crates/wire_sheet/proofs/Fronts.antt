@@ -10,8 +10,7 @@ use Rattle.tokens.specs.declared.token.Token.{Token}
 use Rattle.tokens.specs.Characters.{sign_text}
 use Rattle.tokens.specs.Cursors.{Ends, EatsSign, rest}
 use Rattle.tokens.proofs.Runs.{same_number}
-use Rattle.wire_sheet.specs.Lines.{IsShort}
-use Rattle.wire_sheet.specs.Sheets.{inputs_text, list_text, wire_text}
+use Rattle.wire_sheet.specs.Phrases.{IsShort, inputs_text}
 
 pub space_ends_word : (t : List ℕ) → Ends Letter (32 ∷ t)
 space_ends_word t letter = omega (arith, letter.0)
@@ -42,6 +41,3 @@ start cursor line e zero = ap (λ n. drop n cursor.line.now) zero ∙ ap (λ (b 
 pub no_sign : (sign : Sign) (before after : Cursor) (found : Option Token) → EatsSign sign before after found → is_some found ≡ false → (after ≡ before) × ((tail : List ℕ) → rest before ≢ sign_text sign ++ tail)
 no_sign sign before after None eats none = eats
 no_sign sign before after (Some token) eats none = cc
-
-pub wire_made : (n k : ℕ) (pins l a b d e f : List ℕ) → l ≡ codes "(wire" ++ a → a ≡ codes " " ++ (decimal n ++ b) → b ≡ inputs_text k d → d ≡ codes " " ++ e → e ≡ codes "(to" ++ f → f ≡ list_text pins (codes ")\n") → l ≡ wire_text n k pins
-wire_made n k pins l a b d e f g h i j m o = cc

@@ -8,8 +8,9 @@ use Rattle.std.proofs.lemmas.List.Elements.{All-nil, All-cons, All-head, All-tai
 use Rattle.tokens.specs.declared.characters.Kind.TheVariants.{Letter, Digit}
 use Rattle.tokens.specs.Cursors.{Ends}
 use Rattle.texts.specs.Pins.{pins_text}
-use Rattle.wire_sheet.specs.Lines.{IsShort, kept}
-use Rattle.wire_sheet.specs.Sheets.{list_text}
+use Rattle.wire_sheet.specs.Phrases.{IsShort, inputs_text}
+use Rattle.wire_sheet.specs.Lines.{kept}
+use Rattle.wire_sheet.specs.Sheets.{list_text, wire_text}
 use Rattle.wire_sheet.proofs.Fronts.{space_ends_number, close_ends_number, front_same, number_same}
 
 next_pin : (p : ℕ) (ps tail : List ℕ) → list_text (p ∷ ps) tail ≡ 32 ∷ (decimal p ++ list_text ps tail)
@@ -29,14 +30,9 @@ same_list [] [] r t a b e = (refl, front_same (codes ")") (41 ∷ r) r t refl e)
 same_list [] (q ∷ qs) r t a b e = let z : ◌≡◌ {A = ℕ} 41 32 = cc in absurd (omega arith)
 same_list (p ∷ ps) [] r t a b e = let z : ◌≡◌ {A = ℕ} 32 41 = cc in absurd (omega arith)
 same_list (p ∷ ps) (q ∷ qs) r t a b e =
-    let first =
-    number_same p q _ (list_text ps r) (list_text qs t)
-    (All-head IsShort p ps a)
-    (All-head IsShort q qs b)
-    (list_ends_number ps r)
-    (list_ends_number qs t)
-    (next_pin p ps r)
-    (e ∙ next_pin q qs t) in
+    let short = All-head IsShort p ps a in
+    let brief = All-head IsShort q qs b in
+    let first = number_same p q _ (list_text ps r) (list_text qs t) short brief (list_ends_number ps r) (list_ends_number qs t) (next_pin p ps r) (e ∙ next_pin q qs t) in
     let rest = same_list ps qs r t (All-tail IsShort p ps a) (All-tail IsShort q qs b) first.1 in
     (cc (first.0, rest.0), rest.1)
 
@@ -84,3 +80,7 @@ gone_more start left next list list' n gone small ends e push = record {
       let more = gone.rest qs tail all f in
       list_goes_on more.0 left next tail n more.1 small ends e more.2;
 }
+
+-- a wire line is its parts
+pub wire_made : (n k : ℕ) (pins l a b d e f : List ℕ) → l ≡ codes "(wire" ++ a → a ≡ codes " " ++ (decimal n ++ b) → b ≡ inputs_text k d → d ≡ codes " " ++ e → e ≡ codes "(to" ++ f → f ≡ list_text pins (codes ")\n") → l ≡ wire_text n k pins
+wire_made n k pins l a b d e f g h i j m o = cc

@@ -1,5 +1,5 @@
 -- What a wire line says, and how reading it is answered.
-use Rattle.std.specs.Prelude.{◌≡◌, ℕ, ◌<◌, ◌≤◌, ◌⊎◌, List, length, map, min, take, Result, Ok, Err}
+use Rattle.std.specs.Prelude.{◌≡◌, ℕ, ◌≤◌, ◌⊎◌, List, length, map, min, take, Result, Ok, Err}
 use Rattle.std.specs.List.{All}
 use Rattle.refusals.specs.Due.{none, refusal}
 use Rattle.refusals.specs.Numbers.{number}
@@ -9,11 +9,8 @@ use Rattle.tables.specs.Making.{WiringMade}
 use Rattle.ledger.specs.Refused.{number_due}
 use Rattle.wire_sheet.specs.declared.sheet.Sheet.{Sheet}
 use Rattle.wire_sheet.specs.declared.wire_line.WireLine.{WireLine}
+use Rattle.wire_sheet.specs.Phrases.{IsShort}
 use Rattle.wire_sheet.specs.Sheets.{wire_text}
-
--- a number that has at most five digits
-abbrev pub IsShort : ℕ → Type 0
-IsShort n = n < 100000
 
 -- a part's number, a number of inputs and a list of pins, be they a sheet or not
 pub record Said : Type 0 where

@@ -9,13 +9,10 @@ use Rattle.texts.specs.Pins.{pins_text}
 use Rattle.texts.specs.Copying.{Copied}
 use Rattle.trial.specs.declared.tried.Tried.{Tried}
 use Rattle.trial.specs.Trials.{Passes, Faults, refusal_of}
+use Rattle.wire_sheet.specs.Phrases.{inputs_text}
 use Rattle.wire_sheet.specs.declared.printing.TooShort.{TooShort}
 use Rattle.wire_sheet.specs.declared.bench.Stopped.{Stopped}
 use Rattle.wire_sheet.specs.declared.bench.Stopped.TheVariants as stopped
-
--- a number of inputs, as in (pins 3), and what follows it
-abbrev pub inputs_text : ℕ → List ℕ → List ℕ
-inputs_text inputs tail = codes " (pins " ++ (decimal inputs ++ (codes ")" ++ tail))
 
 -- the pins of a to-list up to its end, and what follows it
 abbrev pub list_text : List ℕ → List ℕ → List ℕ

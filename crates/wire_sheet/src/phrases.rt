@@ -1,8 +1,9 @@
-ghost use Rattle.std.specs.Prelude.{◌≡◌, ◌≢◌, ℕ, ◌<◌, ◌++◌, List, MatchOption, codes};
+ghost use Rattle.std.specs.Prelude.{◌≡◌, ◌≢◌, ℕ, ◌++◌, List, MatchOption, codes};
 ghost use Rattle.std.specs.Fmt.{decimal};
 ghost use Rattle.tokens.specs.Characters.{word_text};
 ghost use Rattle.tokens.specs.Cursors.{rest, Ends};
 ghost use Rattle.tokens.specs.declared.characters.Kind.TheVariants.{Letter, Digit};
+ghost use Rattle.wire_sheet.specs.Phrases.{IsShort, inputs_text};
 
 use tokens::{Cursor, Sign, Token, Word};
 
@@ -17,13 +18,24 @@ pub fn open(cursor: &mut Cursor, word: Word) -> Option<()>
 
 // The number that comes after a space.
 pub fn number(cursor: &mut Cursor) -> Option<u32>
-    ensures { MatchOption result ((n : ℕ) (tail : List ℕ) → n < 100000 → Ends Digit tail → rest cursor.old ≢ codes " " ++ (decimal n ++ tail)) (λ n. (n < 100000) × Ends Digit (rest cursor.new) × (rest cursor.old ≡ codes " " ++ (decimal n ++ rest cursor.new))) }
+    ensures { MatchOption result ((n : ℕ) (tail : List ℕ) → IsShort n → Ends Digit tail → rest cursor.old ≢ codes " " ++ (decimal n ++ tail)) (λ n. IsShort n × Ends Digit (rest cursor.new) × (rest cursor.old ≡ codes " " ++ (decimal n ++ rest cursor.new))) }
 {
     cursor.sign(Sign::Space)?;
     let Some(Token::Number { value, .. }) = cursor.number() else {
         return None;
     };
     Some(value)
+}
+
+// The number of inputs, as in ` (pins 3)`.
+pub fn inputs(cursor: &mut Cursor) -> Option<usize>
+    ensures { MatchOption result ((n : ℕ) (tail : List ℕ) → IsShort n → rest cursor.old ≢ inputs_text n tail) (λ n. IsShort n × (rest cursor.old ≡ inputs_text n (rest cursor.new))) }
+{
+    cursor.sign(Sign::Space)?;
+    open(cursor, Word::Pins)?;
+    let inputs = number(cursor)?;
+    cursor.sign(Sign::Close)?;
+    Some(inputs as usize)
 }
 
 // The line ends after a closing bracket and a newline.

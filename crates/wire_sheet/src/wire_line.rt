@@ -1,23 +1,13 @@
 ghost use Rattle.std.specs.Prelude.{◌≡◌, ◌≢◌, ◌<◌, ◌++◌, ℕ, List, MatchOption, codes};
 ghost use Rattle.std.specs.List.{All};
 ghost use Rattle.tokens.specs.Cursors.{rest};
-ghost use Rattle.wire_sheet.specs.Lines.{IsShort, kept};
-ghost use Rattle.wire_sheet.specs.Sheets.{inputs_text, list_text};
+ghost use Rattle.wire_sheet.specs.Lines.{kept};
+ghost use Rattle.wire_sheet.specs.Phrases.{IsShort};
+ghost use Rattle.wire_sheet.specs.Sheets.{list_text};
 
-use crate::phrases::{end, number, open};
+use crate::phrases::{end, inputs, number, open};
 use crate::to_list::ToList;
 use tokens::{Cursor, Sign, Word};
-
-// The number of inputs, as in ` (pins 3)`.
-fn inputs(cursor: &mut Cursor) -> Option<usize>
-    ensures { MatchOption result ((n : ℕ) (tail : List ℕ) → IsShort n → rest cursor.old ≢ inputs_text n tail) (λ n. IsShort n × (rest cursor.old ≡ inputs_text n (rest cursor.new))) }
-{
-    cursor.sign(Sign::Space)?;
-    open(cursor, Word::Pins)?;
-    let inputs = number(cursor)?;
-    cursor.sign(Sign::Close)?;
-    Some(inputs as usize)
-}
 
 // The pins up to the bracket that closes the list.
 fn pins(cursor: &mut Cursor) -> Option<ToList>

@@ -3,9 +3,10 @@ use Rattle.std.specs.Prelude.{codes}
 use Rattle.std.specs.Fmt.{decimal}
 use Rattle.tokens.specs.Cursors.{rest}
 use Rattle.wire_sheet.specs.Lines.{Said, Spells}
-use Rattle.wire_sheet.specs.Sheets.{inputs_text, list_text}
-use Rattle.wire_sheet.proofs.Fronts.{start, front_same, number_same, inputs_same, space_ends_word, wire_made}
-use Rattle.wire_sheet.proofs.Lists.{same_list, list_ends_word}
+use Rattle.wire_sheet.specs.Phrases.{inputs_text}
+use Rattle.wire_sheet.specs.Sheets.{list_text}
+use Rattle.wire_sheet.proofs.Fronts.{start, front_same, number_same, inputs_same, space_ends_word}
+use Rattle.wire_sheet.proofs.Lists.{same_list, list_ends_word, wire_made}
 use Rattle.wire_sheet.proofs.wire_line.WireLine.read.Goals as goal
 use Rattle.wire_sheet.proofs.wire_line.WireLine.read.Goals.{In_ok-number, In_ok-inputs, In_ok-open-2}
 

@@ -2,7 +2,7 @@ use Rattle.std.proofs.Common.{◌++◌}
 use Rattle.std.specs.Prelude.{codes}
 use Rattle.std.specs.Fmt.{decimal}
 use Rattle.wire_sheet.proofs.Fronts.{space_ends_word, close_ends_number, front_same, number_same}
-use Rattle.wire_sheet.proofs.wire_line.inputs.Goals as goal
+use Rattle.wire_sheet.proofs.phrases.inputs.Goals as goal
 
 pub returns-in_err-open : goal.returns-in_err-open
 returns-in_err-open c =
