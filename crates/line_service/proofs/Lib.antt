@@ -1,0 +1,4 @@
+pub mod Talking
+pub mod Composing
+pub mod Cutting
+pub mod Opened
