@@ -1,6 +1,8 @@
 ghost use Rattle.std.specs.Prelude.{map, string_bytes};
 ghost use Rattle.rewire.specs.Requests.{Asks};
 
+use arguments::asks_for_help;
+
 pub const USAGE: &str = "usage: rewire CARD PART
 
 Finds which pin of a part each input of a card goes to.
@@ -27,7 +29,7 @@ impl<'a> Request<'a> {
                 card: card.as_str(),
                 part: part.as_str(),
             }),
-            [word] if word.as_str() == "--help" => Some(Request::Help),
+            _ if asks_for_help(args) => Some(Request::Help),
             _ => None,
         }
     }

@@ -1,0 +1,5 @@
+#![tactic(auto)]
+
+mod help;
+
+pub use help::asks_for_help;

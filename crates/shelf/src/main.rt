@@ -1,0 +1,41 @@
+#![tactic(auto)]
+
+mod failure;
+mod request;
+
+use failure::Failure;
+use line_service::serve;
+use request::{Request, USAGE};
+use rows::OnOff;
+use signatures::STANDARD_PILE;
+use std::env;
+use std::process::ExitCode;
+
+const SLOTS: usize = 16;
+
+fn run(rt: &HostRuntime) -> Result<(), Failure> {
+    let args: Vec<String> = env::args(rt)?.skip(1).collect(rt.alloc())?;
+    match Request::of(args.as_slice()) {
+        Some(Request::Serve) => {
+            let mut memory = [OnOff::Off; SLOTS * 1024];
+            serve(
+                SLOTS,
+                &mut memory,
+                &STANDARD_PILE,
+                &mut rt.stdin(),
+                &mut rt.stdout(),
+            )?;
+        }
+        Some(Request::Help) => println!(rt; "{USAGE}")?,
+        None => return Err(Failure::Usage),
+    }
+    Ok(())
+}
+
+fn main(rt: HostRuntime) -> ExitCode {
+    let Err(failure) = run(&rt) else {
+        return ExitCode::SUCCESS;
+    };
+    let _ = eprintln!(rt; "{failure}");
+    ExitCode::FAILURE
+}
