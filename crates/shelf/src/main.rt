@@ -9,6 +9,7 @@ use request::{Request, USAGE};
 use rows::OnOff;
 use signatures::STANDARD_PILE;
 use std::env;
+use std::io::BufWriter;
 use std::process::ExitCode;
 
 const SLOTS: usize = 16;
@@ -18,12 +19,13 @@ fn run(rt: &HostRuntime) -> Result<(), Failure> {
     match Request::of(args.as_slice()) {
         Some(Request::Serve) => {
             let mut memory = [OnOff::Off; SLOTS * 1024];
+            let mut output = BufWriter::new(rt.alloc(), rt.stdout())?;
             serve(
                 SLOTS,
                 &mut memory,
                 &STANDARD_PILE,
                 &mut rt.stdin(),
-                &mut rt.stdout(),
+                &mut output,
             )?;
         }
         Some(Request::Help) => println!(rt; "{USAGE}")?,
