@@ -50,7 +50,7 @@ agree_test n card part w =
     (low_test n w && all_apart_test n w) && (sizes_test n card part && rows)
 
 module _ (n : ℕ) (card part : List OnOff) where
-  test_agree : (w : ℕ → ℕ) → agree_test n card part w ≡ true → Agree on_off_same n w card part
+  pub test_agree : (w : ℕ → ℕ) → agree_test n card part w ≡ true → Agree on_off_same n w card part
   test_agree w t =
       let halves = and_parts (low_test n w && all_apart_test n w) (sizes_test n card part && all_below (2 ^ n) (row_test n card part w)) t in
       let wired = and_parts (low_test n w) (all_apart_test n w) halves.0 in
@@ -78,7 +78,20 @@ module _ (n : ℕ) (card part : List OnOff) where
       (and_from (eqb (length card) (2 ^ n)) (eqb (length part) (2 ^ n)) (eq-eqb (length card) (2 ^ n) a.card_rows) (eq-eqb (length part) (2 ^ n) a.part_rows))
       (all_below_from (2 ^ n) (row_test n card part w) (λ r lr. agree_row on_off_same n card part w a r Off lr)))
 
-abbrev alike_test : ℕ → (ℕ → ℕ) → (ℕ → ℕ) → Bool
+-- a test of each list of pins that passes
+abbrev pub all_agreeing : ℕ → List OnOff → List OnOff → (List ℕ → Bool) → Bool
+all_agreeing n card part f = all_lists n n (λ pins. let asked = f pins in not (agree_test n card part (pin pins)) || asked)
+
+pub all_agreeing_at : (n : ℕ) (card part : List OnOff) (f : List ℕ → Bool) → all_agreeing n card part f ≡ true → (v : ℕ → ℕ) → Agree on_off_same n v card part → f (first n v) ≡ true
+all_agreeing_at n card part f t v a =
+    let pins : List ℕ = first n v in
+    let passes = agree_tests n card part (pin pins) (agree_alike n v (pin pins) (first_alike n v) on_off_same card part a) in
+    ⊎_elim
+    (λ fails. absurd (both_ways (agree_test n card part (pin pins)) (not-true (agree_test n card part (pin pins)) fails) passes))
+    (λ asked. asked)
+    (or_cases (not (agree_test n card part (pin pins))) (f pins) (all_lists_at n n (λ pins. not (agree_test n card part (pin pins)) || f pins) t v a.wires.0))
+
+abbrev pub alike_test : ℕ → (ℕ → ℕ) → (ℕ → ℕ) → Bool
 alike_test n v w = all_below n (λ i. eqb (v i) (w i))
 
 abbrev among_test : ℕ → (ℕ → ℕ) → List (List ℕ) → Bool
@@ -107,23 +120,13 @@ each_agree n card part v (u ∷ us) t m =
     (λ rest. each_agree n card part v us both.1 rest)
     m
 
--- a list of pins that passes is given
-abbrev given_test : ℕ → List OnOff → List OnOff → List (List ℕ) → List ℕ → Bool
-given_test n card part wirings pins = let given = among_test n (pin pins) wirings in not (agree_test n card part (pin pins)) || given
-
 abbrev pub agreeing_test : ℕ → List OnOff → List OnOff → List (List ℕ) → Bool
-agreeing_test n card part wirings = each_test n card part wirings && all_lists n n (given_test n card part wirings)
+agreeing_test n card part wirings = each_test n card part wirings && all_agreeing n card part (λ pins. among_test n (pin pins) wirings)
 
 pub agreeing_holds : (n : ℕ) (card part : List OnOff) (wirings : List (List ℕ)) → agreeing_test n card part wirings ≡ true → Holds (agreeing n card part wirings)
 agreeing_holds n card part wirings t v =
-    let both = and_parts (each_test n card part wirings) (all_lists n n (given_test n card part wirings)) t in
-    let pins : List ℕ = first n v in
-    let same : Alike n v (pin pins) = first_alike n v in (
-      (λ a.
-          let passes = agree_tests n card part (pin pins) (agree_alike n v (pin pins) same on_off_same card part a) in
-          ⊎_elim
-          (λ fails. absurd (both_ways (agree_test n card part (pin pins)) (not-true (agree_test n card part (pin pins)) fails) passes))
-          (λ given. test_among n v (pin pins) same wirings given)
-          (or_cases (not (agree_test n card part (pin pins))) (among_test n (pin pins) wirings) (all_lists_at n n (given_test n card part wirings) both.1 v a.wires.0))),
+    let given : List ℕ → Bool = λ pins. among_test n (pin pins) wirings in
+    let both = and_parts (each_test n card part wirings) (all_agreeing n card part given) t in (
+      (λ a. test_among n v (pin (first n v)) (first_alike n v) wirings (all_agreeing_at n card part given both.1 v a)),
       (λ m. each_agree n card part v wirings both.0 m),
     )

@@ -1,4 +1,6 @@
 mod Tests
 mod Agreeing
+mod Leading
 mod Drives
+mod Classes
 mod Standing

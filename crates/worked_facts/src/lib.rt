@@ -8,5 +8,5 @@ pub fn worked_facts_stand() -> usize
     ensures hold { WorkedFacts }
     ensures count { result ≡ length cases }
 {
-    15
+    20
 }
