@@ -9,28 +9,14 @@ use Rattle.tables.specs.Equivalence.{named, Equivalent}
 use Rattle.tables.proofs.Sums.{sum_ext}
 use Rattle.tables.proofs.Digits.{bit_lt, bits_ext}
 use Rattle.tables.proofs.Carries.{agree_row, rows_agree, carried_only}
-use Rattle.tables.proofs.Published.{named_lt, bit_named}
+use Rattle.tables.proofs.Published.{named_lt, bit_named, vector, named_vector}
 use Rattle.symmetry.specs.Symmetry.{swap, exchanged, Symmetric}
 use Rattle.symmetry.specs.Published.{put, MixedCofactors}
 use Rattle.symmetry.proofs.Exchanges.{swap_in, swap_back, exchanged_lt, bit_exchanged, exchanged_is}
 use Rattle.symmetry.proofs.Symmetries.{of_moved}
 
--- the value of a digit
-abbrev worth : Bool → ℕ
-worth b = cond b 1 0
-
-worth_bit : (b : ℕ) → b < 2 → worth (eqb b 1) ≡ b
-worth_bit b lt = grind (arith, nat_tests)
-
--- the vector of a row's bits
-abbrev pub vector : ℕ → ℕ → Bool
-vector r j = eqb (bit j r) 1
-
 pub named_ext : (n : ℕ) (x y : ℕ → Bool) → ((j : ℕ) → j < n → x j ≡ y j) → named n x ≡ named n y
-named_ext n x y e = sum_ext n (λ j. worth (x j) * 2 ^ j) (λ j. worth (y j) * 2 ^ j) (λ j lj. ap (λ b. worth b * 2 ^ j) (e j lj))
-
-pub named_vector : (n r : ℕ) → r < 2 ^ n → named n (vector r) ≡ r
-named_vector n r lr = bits_ext n (named n (vector r)) r (named_lt n (vector r)) lr (λ j lj. bit_named n (vector r) j lj ∙ worth_bit (bit j r) (bit_lt j r))
+named_ext n x y e = sum_ext n _ _ (λ j lj. ap (λ b. cond b 1 0 * 2 ^ j) (e j lj))
 
 module _ (n i k : ℕ) (li : i < n) (lk : k < n) where
   -- exchanging two inputs of a row is exchanging two variables of its vector

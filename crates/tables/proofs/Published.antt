@@ -23,6 +23,13 @@ named_lt n x = number_lt (λ i. digit (x i)) (λ i. digit_lt (x i)) n
 pub bit_named : (n : ℕ) (x : ℕ → Bool) (i : ℕ) → i < n → bit i (named n x) ≡ digit (x i)
 bit_named n x i lt = bit_number (λ i. digit (x i)) (λ i. digit_lt (x i)) n i lt
 
+-- the vector of a row's bits
+abbrev pub vector : ℕ → ℕ → Bool
+vector r i = eqb (bit i r) 1
+
+pub named_vector : (n r : ℕ) → r < 2 ^ n → named n (vector r) ≡ r
+named_vector n r lr = bits_ext n (named n (vector r)) r (named_lt n (vector r)) lr (λ i li. bit_named n (vector r) i li ∙ digit_eqb (bit i r) (bit_lt i r))
+
 pub inverse : (n : ℕ) (w : ℕ → ℕ) → Wires n w → (π : ℕ → ℕ) × Inverse n w π
 inverse n w h = (back n w h, (back_there n w h, λ j lj. (back_into n w h j lj, there_back n w h j lj)))
 
@@ -37,8 +44,8 @@ module _ {R : Type 0} (same : R → R → Bool) (n : ℕ) (w π : ℕ → ℕ) (
     card_rows = lc;
     part_rows = lp;
     rows = λ r q d lr lq c.
-        let x : ℕ → Bool = λ i. eqb (bit i r) 1 in
-        let er : named n x ≡ r = bits_ext n (named n x) r (named_lt n x) lr (λ j lj. bit_named n x j lj ∙ digit_eqb (bit j r) (bit_lt j r)) in
+        let x = vector r in
+        let er = named_vector n r lr in
         let eq : named n (λ j. x (π j)) ≡ q = bits_ext n (named n (λ j. x (π j))) q (named_lt n (λ j. x (π j))) lq (λ j lj.
         bit_named n (λ j. x (π j)) j lj ∙ digit_eqb (bit (π j) r) (bit_lt (π j) r) ∙ sym (c (π j) (inv.1 j lj).0) ∙ ap (λ y. bit y q) (inv.1 j lj).1) in
         ap (λ y. same (get_or card y d) (get_or part q d)) (sym er) ∙ ap (λ y. same (get_or card (named n x) d) (get_or part y d)) (sym eq) ∙ e x d;
