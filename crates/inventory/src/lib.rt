@@ -1,9 +1,11 @@
 #![tactic(auto)]
 
 mod label;
+mod part_number;
 mod proposal;
 mod row_store;
 mod shelf;
 
+pub use part_number::check_number;
 pub use proposal::Proposal;
 pub use shelf::Shelf;

@@ -1,5 +1,5 @@
 -- Symmetry as it is published, over Boolean vectors.
-use Rattle.std.proofs.Common.{◌≡◌, ℕ, ◌*◌, ◌^◌, ◌<◌, ◌≢◌, Bool, true, false, cond, eqb, List, length, get_or, sym, ap, ◌∙◌, arith}
+use Rattle.std.proofs.Common.{◌≡◌, ℕ, ◌*◌, ◌^◌, ◌<◌, ◌≢◌, Bool, true, false, cond, List, length, get_or, sym, ap, ◌∙◌, arith}
 use Rattle.std.proofs.lemmas.Bool.Decides.{nat_tests}
 use Rattle.rows.specs.Laws.{RowKindLaws}
 use Rattle.tables.specs.Wirings.{Wires}
@@ -7,7 +7,6 @@ use Rattle.tables.specs.Agreement.{bit, Agree}
 use Rattle.tables.specs.Carry.{carry}
 use Rattle.tables.specs.Equivalence.{named, Equivalent}
 use Rattle.tables.proofs.Sums.{sum_ext}
-use Rattle.tables.proofs.Digits.{bit_lt, bits_ext}
 use Rattle.tables.proofs.Carries.{agree_row, rows_agree, carried_only}
 use Rattle.tables.proofs.Published.{named_lt, bit_named, vector, named_vector}
 use Rattle.symmetry.specs.Symmetry.{swap, exchanged, Symmetric}

@@ -2,16 +2,14 @@
 use Rattle.std.proofs.Common.{◌≡◌, ℕ, ◌<◌, ◌≤◌, ◌↔◌, List, length, take, refl, sym, ap, ◌∙◌, subst, inl, inr, ⊎_elim, arith, Result, Ok, Err}
 use Rattle.std.specs.Prelude.{codes}
 use Rattle.std.proofs.lemmas.Grind.{same_number_lists, get_or_default_zero}
-use Rattle.std.proofs.lemmas.Bool.{cases_lt}
 use Rattle.std.proofs.lemmas.Bool.Decides.{nat_tests}
-use Rattle.std.proofs.lemmas.List.{length-take-le, get_or-take}
 use Rattle.refusals.specs.Due.{none, refusal}
 use Rattle.refusals.specs.Numbers.{number}
 use Rattle.refusals.specs.declared.refusal.Refusal.{Refusal}
 use Rattle.refusals.specs.declared.refusal.Refusal.TheVariants.{NotAForm}
 use Rattle.refusals.proofs.Dues.{refusal≢none}
 use Rattle.tables.specs.declared.wiring.Wiring.{Wiring}
-use Rattle.tables.specs.Wirings.{pin}
+use Rattle.tables.proofs.Pins.{read_length, read_pin, same_taken}
 use Rattle.tables.specs.Making.{WiringMade, Names}
 use Rattle.ledger.specs.Refused.{number_due}
 use Rattle.wire_sheet.specs.declared.sheet.Sheet.{Sheet}
@@ -21,46 +19,30 @@ use Rattle.wire_sheet.specs.Sheets.{sheet_text}
 use Rattle.wire_sheet.proofs.Fronts.{front_same, number_same, inputs_same}
 use Rattle.wire_sheet.proofs.Lists.{same_list}
 use Rattle.wire_sheet.proofs.Kept.{made_of_all}
-use Rattle.wire_sheet.proofs.Same.{same_wiring, same_sheet}
+use Rattle.wire_sheet.proofs.Same.{same_sheet}
 use Rattle.wire_sheet.proofs.Lengths.{length-sheet_text}
 
 number_fine : (n : ℕ) → 1 ≤ n → n ≤ 9999 → number_due n ≡ none
 number_fine n some few = grind (arith, nat_tests)
 
-module _ (w : Wiring) where
-  abbrev pins_of : List ℕ
-  pins_of = take w.inputs w.pins
+abbrev pins_of : Wiring → List ℕ
+pins_of w = take w.inputs w.pins
 
-  length-pins_of : length pins_of ≡ w.inputs
-  length-pins_of = length-take-le w.inputs w.pins (omega (arith, w.few, w.whole))
-
-  pin-pins_of : (i : ℕ) → i < w.inputs → pin pins_of i ≡ pin w.pins i
-  pin-pins_of i lt = get_or-take w.inputs w.pins i 0 lt
-
-  names_of : Names w.inputs pins_of
-  names_of = (
-    length-pins_of,
-    (
-      (λ i lt. rw (pin-pins_of i lt) (w.into i lt)),
-      (λ i j two. w.apart i j (two.0, two.1, sym (pin-pins_of i two.0) ∙ two.2 ∙ pin-pins_of j two.1)),
-    ),
-  )
+names_of : (w : Wiring) → Names w.inputs (pins_of w)
+names_of w = (
+  read_length w _ refl,
+  (
+    (λ i lt. rw (read_pin w _ refl i lt) (w.into i lt)),
+    (λ i j two. w.apart i j (two.0, two.1, sym (read_pin w _ refl i two.0) ∙ two.2 ∙ read_pin w _ refl j two.1)),
+  ),
+)
 
 -- a wiring that was made of pins has these pins
 pins_made : (n : ℕ) (pins : List ℕ) (w : Wiring) → WiringMade n pins (Ok w) → pins ≡ pins_of w
 pins_made n pins w made =
-    same_number_lists pins (pins_of w) (omega (arith, made.1, made.2, length-pins_of w)) (λ k lt.
+    same_number_lists pins (pins_of w) (omega (arith, made.1, made.2, read_length w _ refl)) (λ k lt.
     let below : k < w.inputs = omega (arith, made.1, made.2, lt) in
-    sym (pin-pins_of w k below ∙ made.3 k (omega (arith, made.2, lt))))
-
--- the first pins are all that tells two wirings apart
-same_pins : (v w : Wiring) → v.inputs ≡ w.inputs → pins_of v ≡ pins_of w → v ≡ w
-same_pins v w inputs pins =
-    same_wiring v w inputs (same_number_lists v.pins w.pins (omega (arith, v.whole, w.whole)) (λ k lt.
-    ⊎_elim
-    (λ (in_use : k < v.inputs). sym (pin-pins_of v k in_use) ∙ ap (λ l. pin l k) pins ∙ pin-pins_of w k (omega arith))
-    (λ (past : v.inputs ≤ k). v.rest k past ∙ sym (w.rest k (omega arith)))
-    (cases_lt k v.inputs)))
+    sym (read_pin w _ refl k below ∙ made.3 k (omega (arith, made.2, lt))))
 
 -- a line spells one thing only
 one_said : (line : List ℕ) (a b : Said) → Spells line a → Spells line b → (a.number ≡ b.number) × (a.inputs ≡ b.inputs) × (a.pins ≡ b.pins)
@@ -77,7 +59,7 @@ spells_own : (line : List ℕ) (sheet : Sheet) → line ≡ sheet_text sheet.num
 spells_own line sheet e = record {
   number = omega (arith, sheet.numbered);
   inputs = omega (arith, sheet.wiring.few);
-  pins = λ i d lt. omega (arith, get_or_default_zero (pins_of sheet.wiring) i d lt, pin-pins_of sheet.wiring i (omega (arith, lt, length-pins_of sheet.wiring)), sheet.wiring.into i (omega (arith, lt, length-pins_of sheet.wiring)), sheet.wiring.few);
+  pins = λ i d lt. omega (arith, get_or_default_zero (pins_of sheet.wiring) i d lt, read_pin sheet.wiring _ refl i (omega (arith, lt, read_length sheet.wiring _ refl)), sheet.wiring.into i (omega (arith, lt, read_length sheet.wiring _ refl)), sheet.wiring.few);
   text = e;
 }
 
@@ -110,7 +92,7 @@ read_back : (line : List ℕ) (result : Result Sheet Refusal) → Reads line res
 read_back line (Ok found) reads sheet e =
     let text = own_text line found reads in
     let same = one_said line (said_of found) (said_of sheet) (spells_own line found text) (spells_own line sheet e) in
-    let wirings = same_pins found.wiring sheet.wiring same.1 same.2 in
+    let wirings = same_taken found.wiring sheet.wiring same.1 same.2 in
     ap Ok (same_sheet found sheet same.0 wirings)
 read_back line (Err reason) reads sheet e =
     let own = spells_own line sheet e in
@@ -128,18 +110,13 @@ exact line result reads sheet = (
 )
 
 module _ (line : List ℕ) (held : WireLine) (short : length line ≤ 1100) (says : (said : Said) × Spells line said × Holds held said) where
-  fine : (1 ≤ held.number) × (held.number ≤ 9999) → number_due says.0.number ≡ none
-  fine numbered = number_fine says.0.number (omega (arith, numbered.0, says.2.0)) (omega (arith, numbered.1, says.2.0))
-
   made_whole : (pins : List ℕ) (made : Result Wiring Refusal) → pins ≡ held.list → WiringMade held.inputs pins made → WiringMade says.0.inputs says.0.pins made
   made_whole pins made same wiring =
       made_of_all says.0.inputs says.0.pins made (subst (λ n. WiringMade n (kept says.0.pins) made) says.2.1 (subst (λ l. WiringMade held.inputs l made) (same ∙ says.2.2) wiring))
 
   -- a number and pins that were read are answered as all that the line says
-  pub wiring_refused : (pins : List ℕ) (reason : Refusal) → (1 ≤ held.number) × (held.number ≤ 9999) → pins ≡ held.list → WiringMade held.inputs pins (Err reason) → Reads line (Err reason)
-  wiring_refused pins reason numbered same made = inl (says.0, (short, says.1), inr (fine numbered, made_whole pins (Err reason) same made))
+  pub wiring_refused : (pins : List ℕ) (reason : Refusal) → number_due held.number ≡ none → pins ≡ held.list → WiringMade held.inputs pins (Err reason) → Reads line (Err reason)
+  wiring_refused pins reason fine same made = inl (says.0, (short, says.1), inr (rw says.2.0 at fine, made_whole pins (Err reason) same made))
 
-  pub sheet_read : (pins : List ℕ) (sheet : Sheet) → sheet.number ≡ held.number → pins ≡ held.list → WiringMade held.inputs pins (Ok sheet.wiring) → Reads line (Ok sheet)
-  sheet_read pins sheet number same made =
-      let numbered : (1 ≤ held.number) × (held.number ≤ 9999) = (omega (arith, number, sheet.numbered), omega (arith, number, sheet.numbered)) in
-      inl (says.0, (short, says.1), (fine numbered, number ∙ says.2.0, made_whole pins (Ok sheet.wiring) same made))
+  pub sheet_read : (pins : List ℕ) (sheet : Sheet) → number_due held.number ≡ none → sheet.number ≡ held.number → pins ≡ held.list → WiringMade held.inputs pins (Ok sheet.wiring) → Reads line (Ok sheet)
+  sheet_read pins sheet fine number same made = inl (says.0, (short, says.1), (rw says.2.0 at fine, number ∙ says.2.0, made_whole pins (Ok sheet.wiring) same made))

@@ -1,30 +1,8 @@
--- Wirings of the same inputs and pins are the same wiring, and sheets of the same number and wiring the same sheet.
-use Rattle.std.proofs.Common.{◌≡◌, ℕ, ◌<◌, ◌≤◌, List, length, ap, subst}
+-- Sheets of the same number and wiring are the same sheet.
+use Rattle.std.proofs.Common.{◌≡◌, ℕ, ◌≤◌, ap, subst}
 use Rattle.std.proofs.Props.{props}
 use Rattle.tables.specs.declared.wiring.Wiring.{Wiring}
 use Rattle.wire_sheet.specs.declared.sheet.Sheet.{Sheet}
-use Rattle.tables.specs.Wirings.{pin, Apart}
-
--- the facts that a wiring keeps of its inputs and pins
-abbrev Keeps : ℕ → List ℕ → Type 0
-Keeps n pins =
-    (n ≤ 10) × (length pins ≡ 10) × ((i : ℕ) → i < n → pin pins i < n) × Apart n (pin pins)
-    × ((i : ℕ) → n ≤ i → pin pins i ≡ 0)
-
-one_proof : (n : ℕ) (pins : List ℕ) → Prim.IsProp (Keeps n pins)
-one_proof n pins = hlevel props
-
-abbrev made : (n : ℕ) (pins : List ℕ) → Keeps n pins → Wiring
-made n pins keeps = record { inputs = n; pins = pins; few = keeps.0; whole = keeps.1; into = keeps.2; apart = keeps.3; rest = keeps.4 }
-
-made_same : (n m : ℕ) (ps qs : List ℕ) → n ≡ m → ps ≡ qs → (a : Keeps n ps) (b : Keeps m qs) → made n ps a ≡ made m qs b
-made_same n m ps qs inputs pins a b =
-    subst (λ k. (c : Keeps k qs) → made n ps a ≡ made k qs c) inputs
-    (subst (λ xs. (c : Keeps n xs) → made n ps a ≡ made n xs c) pins (λ c. ap (made n ps) (one_proof n ps a c))) b
-
-pub same_wiring : (v w : Wiring) → v.inputs ≡ w.inputs → v.pins ≡ w.pins → v ≡ w
-same_wiring v w inputs pins =
-    made_same v.inputs w.inputs v.pins w.pins inputs pins (v.few, v.whole, v.into, v.apart, v.rest) (w.few, w.whole, w.into, w.apart, w.rest)
 
 abbrev IsNumber : ℕ → Type 0
 IsNumber n = (1 ≤ n) × (n ≤ 9999)

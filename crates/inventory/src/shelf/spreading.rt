@@ -4,9 +4,9 @@ ghost use Rattle.ledger.specs.Law.{list_by, Spreads};
 ghost use Rattle.ledger.specs.Refused.{spread_due};
 ghost use Rattle.inventory.specs.Slots.{Held, labelled, memory_due};
 
+use crate::part_number::check_number;
 use crate::row_store::stored;
 use crate::shelf::Shelf;
-use crate::shelf::stocking::check_number;
 use fitting::spread_by;
 use refusals::Refusal;
 use rows::RowKind;

@@ -1,25 +1,15 @@
-ghost use Rattle.std.specs.Prelude.{◌≤◌, length};
-ghost use Rattle.refusals.specs.Due.{Outcome};
-ghost use Rattle.ledger.specs.Refused.{number_due, enter_due, drop_due};
+ghost use Rattle.std.specs.Prelude.{length};
+ghost use Rattle.ledger.specs.Refused.{enter_due, drop_due};
 ghost use Rattle.inventory.specs.Slots.{labelled, full, memory_due};
 ghost use Rattle.inventory.specs.Stocking.{Entered, Dropped};
 
 use crate::label::Label;
+use crate::part_number::check_number;
 use crate::row_store::store;
 use crate::shelf::Shelf;
 use refusals::Refusal;
 use rows::RowKind;
 use tables::Table;
-
-// Whether this is the number of a part, from 1 to 9999.
-pub fn check_number(number: u32) -> Result<(), Refusal>
-    ensures { Outcome (number_due number) (λ _. (1 ≤ number) × (number ≤ 9999)) result }
-{
-    if !(1..=9999).contains(&number) {
-        return Err(Refusal::NotAPartNumber);
-    }
-    Ok(())
-}
 
 impl Shelf {
     // Enters a part: its rows go into the front of the stretch of a free slot.

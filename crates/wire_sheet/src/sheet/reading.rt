@@ -4,6 +4,7 @@ ghost use Rattle.wire_sheet.specs.Sheets.{sheet_text};
 
 use crate::sheet::Sheet;
 use crate::wire_line::WireLine;
+use inventory::check_number;
 use refusals::Refusal;
 use tables::Wiring;
 
@@ -32,9 +33,7 @@ impl Sheet {
             return Err(Refusal::NotAForm);
         }
         let line = WireLine::read(line).ok_or(Refusal::NotAForm)?;
-        if !(1..=9999).contains(&line.number) {
-            return Err(Refusal::NotAPartNumber);
-        }
+        check_number(line.number)?;
         let wiring = Wiring::new(line.inputs, line.list.pins())?;
         Ok(Sheet {
             number: line.number,

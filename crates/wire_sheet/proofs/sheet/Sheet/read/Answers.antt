@@ -1,6 +1,6 @@
-use Rattle.std.proofs.Common.{rules, ◌≡◌, ◌≤◌, Result, Ok, Err, refl, subst, arith}
+use Rattle.std.proofs.Common.{rules, ◌≡◌, Result, Ok, Err, refl, subst, arith}
 use Rattle.refusals.specs.declared.refusal.Refusal.{Refusal}
-use Rattle.refusals.specs.declared.refusal.Refusal.TheVariants.{NotAForm, NotAPartNumber}
+use Rattle.refusals.specs.declared.refusal.Refusal.TheVariants.{NotAForm}
 use Rattle.wire_sheet.specs.declared.sheet.Sheet.{Sheet}
 use Rattle.wire_sheet.specs.Lines.{Reads}
 use Rattle.wire_sheet.proofs.Reading.{exact, wiring_refused, sheet_read}
@@ -17,17 +17,16 @@ returns-in_err-line c =
     let answer : Reads c.args.line.now c.from_residual.result = search rules in
     record { answer = answer; exact = exact _ _ answer }
 
-pub returns-then-not-contains : goal.returns-then-not-contains
-returns-then-not-contains c =
-    let answer : Reads c.args.line.now (Err NotAPartNumber) = search rules in
+pub returns-in_err-check_number : goal.returns-in_err-check_number
+returns-in_err-check_number c =
+    let answer : Reads c.args.line.now c.from_residual-in_err-check_number.result = search rules in
     record { answer = answer; exact = exact _ _ answer }
 
 pub returns-in_err-wiring : goal.returns-in_err-wiring
 returns-in_err-wiring c =
     let held = c.in_ok-line.line in
     let says = rw c.in_ok-line.ensures.ok_part at c.read.ensures in
-    let numbered : (1 ≤ held.number) × (held.number ≤ 9999) = search rules in
-    let answer : Reads c.args.line.now (Err c.in_err-wiring.field-0.0) = wiring_refused _ held (omega arith) says _ _ numbered c.pins.ensures c.in_err-wiring.ensures in
+    let answer : Reads c.args.line.now (Err c.in_err-wiring.field-0.0) = wiring_refused _ held (omega arith) says _ _ c.in_ok-check_number.ensures.0 c.pins.ensures c.in_err-wiring.ensures in
     let is : ◌≡◌ {A = Result Sheet Refusal} (Err c.in_err-wiring.field-0.0) c.from_residual-in_err-wiring.result = search rules in
     let whole : Reads c.args.line.now c.from_residual-in_err-wiring.result = subst (Reads c.args.line.now) is answer in
     record { answer = whole; exact = exact _ _ whole }
@@ -36,7 +35,7 @@ returns-in_err-wiring c =
 reads : (c : In_ok-wiring) (sheet : Sheet) → sheet.number ≡ c.in_ok-line.line.number → sheet.wiring ≡ c.in_ok-wiring.wiring → Reads c.args.line.now (Ok sheet)
 reads c sheet number wiring =
     let says = rw c.in_ok-line.ensures.ok_part at c.read.ensures in
-    sheet_read _ c.in_ok-line.line (omega arith) says _ sheet number c.pins.ensures (rw wiring c.in_ok-wiring.ensures)
+    sheet_read _ c.in_ok-line.line (omega arith) says _ sheet c.in_ok-check_number.ensures.0 number c.pins.ensures (rw wiring c.in_ok-wiring.ensures)
 
 pub returns : goal.returns
 returns c =
