@@ -3,6 +3,9 @@ use Rattle.std.specs.Prelude.{◌≡◌, ◌≢◌, ℕ, ◌<◌, ◌≤◌, Lis
 use Rattle.std.specs.Fmt.{decimal}
 use Rattle.rows.specs.declared.on_off.OnOff.{OnOff}
 use Rattle.typed_rows.specs.Reading.{digit}
+use Rattle.tokens.specs.declared.token.Word.{Word}
+use Rattle.tokens.specs.declared.token.Word.TheVariants as word
+use Rattle.tokens.specs.Phrases.{IsShort, opening_text, inputs_text}
 use Rattle.shelf_forms.specs.declared.form.Form.{Form}
 use Rattle.shelf_forms.specs.declared.form.Form.TheVariants.{Part, Drop, Card}
 
@@ -11,23 +14,29 @@ pub data Said : Type 0 where
   remove : (number : ℕ) → Said
   fit : (inputs : ℕ) → List OnOff → Said
 
--- how the number of inputs is written, and the rows with what ends the line
-abbrev pub pins_text : ℕ → List ℕ
-pins_text inputs = codes " (pins " ++ (decimal inputs ++ codes ")")
-
+-- how the rows are written, with what ends the line
 abbrev pub rows_text : List OnOff → List ℕ
 rows_text rows = codes " (rows " ++ (map digit rows ++ codes "))\n")
 
+-- the word that a line begins with, and what comes after it
+abbrev pub verb : Said → Word
+verb (enter number inputs rows) = word.Part
+verb (remove number) = word.Drop
+verb (fit inputs rows) = word.Card
+
+abbrev pub arguments : Said → List ℕ
+arguments (enter number inputs rows) = codes " " ++ (decimal number ++ inputs_text inputs (rows_text rows))
+arguments (remove number) = codes " " ++ (decimal number ++ codes ")\n")
+arguments (fit inputs rows) = inputs_text inputs (rows_text rows)
+
 abbrev pub text : Said → List ℕ
-text (enter number inputs rows) = codes "(part " ++ (decimal number ++ (pins_text inputs ++ rows_text rows))
-text (remove number) = codes "(drop " ++ (decimal number ++ codes ")\n")
-text (fit inputs rows) = codes "(card" ++ (pins_text inputs ++ rows_text rows)
+text said = opening_text (verb said) (arguments said)
 
 -- numbers have at most five digits, and there is at least one row
 abbrev pub IsLawful : Said → Type 0
-IsLawful (enter number inputs rows) = (number < 100000) × (inputs < 100000) × (0 < length rows)
-IsLawful (remove number) = number < 100000
-IsLawful (fit inputs rows) = (inputs < 100000) × (0 < length rows)
+IsLawful (enter number inputs rows) = IsShort number × IsShort inputs × (0 < length rows)
+IsLawful (remove number) = IsShort number
+IsLawful (fit inputs rows) = IsShort inputs × (0 < length rows)
 
 -- the line is of at most 1,100 bytes, and they are how this is written
 abbrev pub Writes : List ℕ → Said → Type 0
@@ -48,15 +57,15 @@ Reads line None = (said : Said) → ¬ (Writes line said)
 abbrev pub OneForm : Type 0
 OneForm = (x y : Said) → IsLawful x → IsLawful y → text x ≡ text y → x ≡ y
 
--- the same of a line however long, form by form
-abbrev pub Spells : List ℕ → Form → Type 0
-Spells line form = (said : Said) × IsLawful said × (line ≡ text said) × Says form said
+-- the same of what comes after a word, form by form
+abbrev pub Spells : Word → List ℕ → Form → Type 0
+Spells word left form = (said : Said) × (verb said ≡ word) × IsLawful said × (left ≡ arguments said) × Says form said
 
 abbrev pub NoPart : List ℕ → Type 0
-NoPart line = (number inputs : ℕ) (rows : List OnOff) → IsLawful (enter number inputs rows) → line ≢ text (enter number inputs rows)
+NoPart left = (number inputs : ℕ) (rows : List OnOff) → IsLawful (enter number inputs rows) → left ≢ arguments (enter number inputs rows)
 
 abbrev pub NoDrop : List ℕ → Type 0
-NoDrop line = (number : ℕ) → IsLawful (remove number) → line ≢ text (remove number)
+NoDrop left = (number : ℕ) → IsLawful (remove number) → left ≢ arguments (remove number)
 
 abbrev pub NoCard : List ℕ → Type 0
-NoCard line = (inputs : ℕ) (rows : List OnOff) → IsLawful (fit inputs rows) → line ≢ text (fit inputs rows)
+NoCard left = (inputs : ℕ) (rows : List OnOff) → IsLawful (fit inputs rows) → left ≢ arguments (fit inputs rows)

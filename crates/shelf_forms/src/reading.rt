@@ -1,37 +1,17 @@
 ghost use Rattle.std.specs.Prelude.{◌≡◌, ◌≢◌, ℕ, ◌<◌, ◌++◌, [], List, MatchOption, length, map, codes};
 ghost use Rattle.std.specs.List.{All};
-ghost use Rattle.std.specs.Fmt.{decimal};
 ghost use Rattle.rows.specs.declared.on_off.OnOff.{OnOff};
 ghost use Rattle.typed_rows.specs.Reading.{digit};
-ghost use Rattle.tokens.specs.Characters.{Is, word_text};
+ghost use Rattle.tokens.specs.Characters.{Is};
 ghost use Rattle.tokens.specs.Cursors.{rest, Ends};
-ghost use Rattle.tokens.specs.declared.characters.Kind.TheVariants.{Letter, Digit, RowDigit};
-ghost use Rattle.shelf_forms.specs.Forms.{pins_text, rows_text, Reads, NoPart, NoDrop, NoCard, Spells};
+ghost use Rattle.tokens.specs.declared.characters.Kind.TheVariants.{RowDigit};
+ghost use Rattle.tokens.specs.declared.token.Word.TheVariants as word;
+ghost use Rattle.shelf_forms.specs.Forms.{rows_text, Reads, NoPart, NoDrop, NoCard, Spells};
 
 use crate::form::Form;
 use tokens::{Cursor, Sign, Token, Word};
 
 const LONGEST_LINE: usize = 1100;
-
-// Goes past an opening bracket and a word.
-fn open(cursor: &mut Cursor, word: Word) -> Option<()>
-    ensures { MatchOption result ((tail : List ℕ) → Ends Letter tail → rest cursor.old ≢ codes "(" ++ (word_text word ++ tail)) (λ _. rest cursor.old ≡ codes "(" ++ (word_text word ++ rest cursor.new)) }
-{
-    cursor.sign(Sign::Open)?;
-    cursor.word(word)?;
-    Some(())
-}
-
-// The number that comes after a space.
-fn number(cursor: &mut Cursor) -> Option<u32>
-    ensures { MatchOption result ((n : ℕ) (tail : List ℕ) → n < 100000 → Ends Digit tail → rest cursor.old ≢ codes " " ++ (decimal n ++ tail)) (λ n. (n < 100000) × Ends Digit (rest cursor.new) × (rest cursor.old ≡ codes " " ++ (decimal n ++ rest cursor.new))) }
-{
-    cursor.sign(Sign::Space)?;
-    let Some(Token::Number { value, .. }) = cursor.number() else {
-        return None;
-    };
-    Some(value)
-}
 
 // The digits of rows that come after a space.
 fn row_digits<'a>(cursor: &mut Cursor<'a>) -> Option<&'a [u8]>
@@ -44,48 +24,23 @@ fn row_digits<'a>(cursor: &mut Cursor<'a>) -> Option<&'a [u8]>
     Some(run)
 }
 
-// The line ends after a closing bracket and a newline.
-fn end(mut cursor: Cursor) -> Option<()>
-    ensures { MatchOption result (rest cursor.entry ≢ codes ")\n") (λ _. rest cursor.entry ≡ codes ")\n") }
-{
-    cursor.sign(Sign::Close)?;
-    cursor.sign(Sign::Newline)?;
-    if !cursor.is_at_end() {
-        return None;
-    }
-    Some(())
-}
-
-// The number of inputs, as in ` (pins 2)`.
-fn pins(cursor: &mut Cursor) -> Option<usize>
-    ensures { MatchOption result ((n : ℕ) (tail : List ℕ) → n < 100000 → rest cursor.old ≢ pins_text n ++ tail) (λ n. (n < 100000) × (rest cursor.old ≡ pins_text n ++ rest cursor.new)) }
-{
-    cursor.sign(Sign::Space)?;
-    open(cursor, Word::Pins)?;
-    let inputs = number(cursor)?;
-    cursor.sign(Sign::Close)?;
-    Some(inputs as usize)
-}
-
 // The rows, with which the line ends.
 fn rows<'a>(mut cursor: Cursor<'a>) -> Option<&'a [u8]>
     ensures { MatchOption result ((rows : List OnOff) → 0 < length rows → rest cursor.entry ≢ rows_text rows) (λ run. (rows : List OnOff) × (0 < length rows) × (run.now ≡ map digit rows) × (rest cursor.entry ≡ rows_text rows)) }
 {
     cursor.sign(Sign::Space)?;
-    open(&mut cursor, Word::Rows)?;
+    cursor.open(Word::Rows)?;
     let run = row_digits(&mut cursor)?;
     cursor.sign(Sign::Close)?;
-    end(cursor)?;
+    cursor.end()?;
     Some(run)
 }
 
-fn part<'a>(line: &'a [u8]) -> Option<Form<'a>>
-    ensures { MatchOption result (NoPart line.now) (Spells line.now) }
+fn part<'a>(mut cursor: Cursor<'a>) -> Option<Form<'a>>
+    ensures { MatchOption result (NoPart (rest cursor.entry)) (Spells word.Part (rest cursor.entry)) }
 {
-    let mut cursor = Cursor::new(line);
-    open(&mut cursor, Word::Part)?;
-    let number = number(&mut cursor)?;
-    let inputs = pins(&mut cursor)?;
+    let number = cursor.next_number()?;
+    let inputs = cursor.inputs()?;
     let rows = rows(cursor)?;
     Some(Form::Part {
         number,
@@ -94,22 +49,18 @@ fn part<'a>(line: &'a [u8]) -> Option<Form<'a>>
     })
 }
 
-fn dropped<'a>(line: &'a [u8]) -> Option<Form<'a>>
-    ensures { MatchOption result (NoDrop line.now) (Spells line.now) }
+fn dropped<'a>(mut cursor: Cursor<'a>) -> Option<Form<'a>>
+    ensures { MatchOption result (NoDrop (rest cursor.entry)) (Spells word.Drop (rest cursor.entry)) }
 {
-    let mut cursor = Cursor::new(line);
-    open(&mut cursor, Word::Drop)?;
-    let number = number(&mut cursor)?;
-    end(cursor)?;
+    let number = cursor.next_number()?;
+    cursor.end()?;
     Some(Form::Drop { number })
 }
 
-fn card<'a>(line: &'a [u8]) -> Option<Form<'a>>
-    ensures { MatchOption result (NoCard line.now) (Spells line.now) }
+fn card<'a>(mut cursor: Cursor<'a>) -> Option<Form<'a>>
+    ensures { MatchOption result (NoCard (rest cursor.entry)) (Spells word.Card (rest cursor.entry)) }
 {
-    let mut cursor = Cursor::new(line);
-    open(&mut cursor, Word::Card)?;
-    let inputs = pins(&mut cursor)?;
+    let inputs = cursor.inputs()?;
     let rows = rows(cursor)?;
     Some(Form::Card { inputs, rows })
 }
@@ -122,6 +73,12 @@ impl<'a> Form<'a> {
         if line.len() > LONGEST_LINE {
             return None;
         }
-        part(line).or_else(|| dropped(line)).or_else(|| card(line))
+        let mut cursor = Cursor::new(line);
+        match cursor.opening()? {
+            Word::Part => part(cursor),
+            Word::Drop => dropped(cursor),
+            Word::Card => card(cursor),
+            _ => None,
+        }
     }
 }

@@ -1,2 +1,3 @@
 pub mod Runs
 pub mod Digits
+pub mod Fronts

@@ -1,2 +1,3 @@
 pub mod Characters
 pub mod Cursors
+pub mod Phrases

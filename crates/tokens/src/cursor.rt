@@ -1,6 +1,7 @@
 ghost use Rattle.std.specs.Prelude.{◌≤◌, length};
 
 mod going;
+mod phrases;
 
 // A line, and a place in it: what comes before the place was gone past, what comes after it is left.
 #[derive(Clone, Copy, Debug)]

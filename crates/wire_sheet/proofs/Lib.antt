@@ -1,5 +1,4 @@
 pub mod Lengths
-pub mod Fronts
 pub mod Lists
 pub mod Kept
 pub mod Same

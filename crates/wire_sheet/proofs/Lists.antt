@@ -8,10 +8,10 @@ use Rattle.std.proofs.lemmas.List.Elements.{All-nil, All-cons, All-head, All-tai
 use Rattle.tokens.specs.declared.characters.Kind.TheVariants.{Letter, Digit}
 use Rattle.tokens.specs.Cursors.{Ends}
 use Rattle.texts.specs.Pins.{pins_text}
-use Rattle.wire_sheet.specs.Phrases.{IsShort, inputs_text}
+use Rattle.tokens.specs.Phrases.{IsShort, inputs_text}
 use Rattle.wire_sheet.specs.Lines.{kept}
 use Rattle.wire_sheet.specs.Sheets.{list_text, wire_text}
-use Rattle.wire_sheet.proofs.Fronts.{space_ends_number, close_ends_number, front_same, number_same}
+use Rattle.tokens.proofs.Fronts.{space_ends_number, close_ends_number, front_same, number_same}
 
 next_pin : (p : ℕ) (ps tail : List ℕ) → list_text (p ∷ ps) tail ≡ 32 ∷ (decimal p ++ list_text ps tail)
 next_pin p ps tail = ap (λ l. 32 ∷ l) (append_assoc (decimal p) (pins_text ps) (41 ∷ tail))

@@ -16,7 +16,7 @@ use Rattle.wire_sheet.specs.declared.sheet.Sheet.{Sheet}
 use Rattle.wire_sheet.specs.declared.wire_line.WireLine.{WireLine}
 use Rattle.wire_sheet.specs.Lines.{Said, Spells, Writes, Answers, Reads, Holds, kept}
 use Rattle.wire_sheet.specs.Sheets.{sheet_text}
-use Rattle.wire_sheet.proofs.Fronts.{front_same, number_same, inputs_same}
+use Rattle.tokens.proofs.Fronts.{front_same, number_same, inputs_same}
 use Rattle.wire_sheet.proofs.Lists.{same_list}
 use Rattle.wire_sheet.proofs.Kept.{made_of_all}
 use Rattle.wire_sheet.proofs.Same.{same_sheet}

@@ -1,3 +1,2 @@
-pub mod Phrases
 pub mod Sheets
 pub mod Lines

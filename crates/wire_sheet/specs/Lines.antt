@@ -9,7 +9,7 @@ use Rattle.tables.specs.Making.{WiringMade}
 use Rattle.ledger.specs.Refused.{number_due}
 use Rattle.wire_sheet.specs.declared.sheet.Sheet.{Sheet}
 use Rattle.wire_sheet.specs.declared.wire_line.WireLine.{WireLine}
-use Rattle.wire_sheet.specs.Phrases.{IsShort}
+use Rattle.tokens.specs.Phrases.{IsShort}
 use Rattle.wire_sheet.specs.Sheets.{wire_text}
 
 -- a part's number, a number of inputs and a list of pins, be they a sheet or not

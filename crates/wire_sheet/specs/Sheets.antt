@@ -9,7 +9,7 @@ use Rattle.texts.specs.Pins.{pins_text}
 use Rattle.texts.specs.Copying.{Copied}
 use Rattle.trial.specs.declared.tried.Tried.{Tried}
 use Rattle.trial.specs.Trials.{Passes, Faults, refusal_of}
-use Rattle.wire_sheet.specs.Phrases.{inputs_text}
+use Rattle.tokens.specs.Phrases.{inputs_text}
 use Rattle.wire_sheet.specs.declared.printing.TooShort.{TooShort}
 use Rattle.wire_sheet.specs.declared.bench.Stopped.{Stopped}
 use Rattle.wire_sheet.specs.declared.bench.Stopped.TheVariants as stopped

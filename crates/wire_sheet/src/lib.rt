@@ -1,7 +1,6 @@
 #![tactic(auto)]
 
 mod bench;
-mod phrases;
 mod printing;
 mod sheet;
 mod to_list;

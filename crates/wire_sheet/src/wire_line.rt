@@ -2,10 +2,9 @@ ghost use Rattle.std.specs.Prelude.{◌≡◌, ◌≢◌, ◌<◌, ◌++◌, ℕ
 ghost use Rattle.std.specs.List.{All};
 ghost use Rattle.tokens.specs.Cursors.{rest};
 ghost use Rattle.wire_sheet.specs.Lines.{kept};
-ghost use Rattle.wire_sheet.specs.Phrases.{IsShort};
+ghost use Rattle.tokens.specs.Phrases.{IsShort};
 ghost use Rattle.wire_sheet.specs.Sheets.{list_text};
 
-use crate::phrases::{end, inputs, number, open};
 use crate::to_list::ToList;
 use tokens::{Cursor, Sign, Word};
 
@@ -15,7 +14,7 @@ fn pins(cursor: &mut Cursor) -> Option<ToList>
 {
     let mut list = ToList::empty();
     while cursor.sign(Sign::Close).is_none() {
-        list.push(number(cursor)?);
+        list.push(cursor.next_number()?);
     }
     Some(list)
 }
@@ -35,13 +34,13 @@ impl WireLine {
         ensures { MatchOption result ((said : Said) → ¬ (Spells line.now said)) (λ held. (said : Said) × Spells line.now said × Holds held said) }
     {
         let mut cursor = Cursor::new(line);
-        open(&mut cursor, Word::Wire)?;
-        let number = number(&mut cursor)?;
-        let inputs = inputs(&mut cursor)?;
+        cursor.open(Word::Wire)?;
+        let number = cursor.next_number()?;
+        let inputs = cursor.inputs()?;
         cursor.sign(Sign::Space)?;
-        open(&mut cursor, Word::To)?;
+        cursor.open(Word::To)?;
         let list = pins(&mut cursor)?;
-        end(cursor)?;
+        cursor.end()?;
         Some(WireLine {
             number,
             inputs,

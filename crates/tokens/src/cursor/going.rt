@@ -24,7 +24,7 @@ impl<'a> Cursor<'a> {
     }
 
     // The longest run of a kind that comes next.
-    fn run(&self, kind: Kind) -> &'a [u8]
+    pub(super) fn run(&self, kind: Kind) -> &'a [u8]
         ensures { Run kind (rest self.now) result.now }
     {
         let rest = &self.line[self.at..];

@@ -6,7 +6,8 @@ use Rattle.tokens.specs.declared.characters.Kind.TheVariants.{RowDigit}
 use Rattle.tokens.specs.Cursors.{rest}
 use Rattle.tokens.proofs.Runs.{same_run}
 use Rattle.shelf_forms.specs.Forms.{rows_text}
-use Rattle.shelf_forms.proofs.Texts.{space_ends_word, close_ends_rows, front_same, rows_start, row_digits, rows_of, some_rows, rows_made}
+use Rattle.tokens.proofs.Fronts.{space_ends_word, front_same}
+use Rattle.shelf_forms.proofs.Texts.{close_ends_rows, rows_start, row_digits, rows_of, some_rows, rows_made}
 use Rattle.shelf_forms.proofs.reading.rows.Goals as goal
 use Rattle.shelf_forms.proofs.reading.rows.Goals.{In_ok-open, In_ok-run}
 
@@ -18,7 +19,7 @@ returns-in_err-open c =
     c.in_err-open.ensures (codes " " ++ left) (space_ends_word left) (front_same (codes " ") _ _ _ c.in_ok-sign.ensures.1.front e))
 
 -- where the line spells rows, their digits come after a space
-before_run : (c : In_ok-open) (rows : List OnOff) → rest c.args.cursor ≡ rows_text rows → rest c.open.new.cursor ≡ codes " " ++ (map digit rows ++ codes "))\n")
+before_run : (c : In_ok-open) (rows : List OnOff) → rest c.args.cursor ≡ rows_text rows → rest c.open.new.self ≡ codes " " ++ (map digit rows ++ codes "))\n")
 before_run c rows e = front_same (codes "(rows") _ _ _ c.in_ok-open.ensures (front_same (codes " ") _ _ _ c.in_ok-sign.ensures.1.front e)
 
 -- and then the end of the line

@@ -3,9 +3,9 @@ use Rattle.std.specs.Prelude.{codes}
 use Rattle.std.specs.Fmt.{decimal}
 use Rattle.tokens.specs.Cursors.{rest}
 use Rattle.wire_sheet.specs.Lines.{Said, Spells}
-use Rattle.wire_sheet.specs.Phrases.{inputs_text}
+use Rattle.tokens.specs.Phrases.{inputs_text}
 use Rattle.wire_sheet.specs.Sheets.{list_text}
-use Rattle.wire_sheet.proofs.Fronts.{start, front_same, number_same, inputs_same, space_ends_word}
+use Rattle.tokens.proofs.Fronts.{start, front_same, number_same, inputs_same, space_ends_word}
 use Rattle.wire_sheet.proofs.Lists.{same_list, list_ends_word, wire_made}
 use Rattle.wire_sheet.proofs.wire_line.WireLine.read.Goals as goal
 use Rattle.wire_sheet.proofs.wire_line.WireLine.read.Goals.{In_ok-number, In_ok-inputs, In_ok-open-2}
@@ -22,7 +22,7 @@ returns-in_err-open c =
     let left = decimal said.number ++ after_number said in
     c.in_err-open.ensures (codes " " ++ left) (space_ends_word left) (begin ∙ spells.text))
 
-from_number : (c : In_ok-number) (said : Said) → Spells c.args.line.now said → rest c.number.new.cursor ≡ after_number said
+from_number : (c : In_ok-number) (said : Said) → Spells c.args.line.now said → rest c.next_number.new.self ≡ after_number said
 from_number c said spells =
     let begin = start c.new-cursor.result c.args.line c.new-cursor.ensures.line c.new-cursor.ensures.start in
     let named = front_same (codes "(wire") _ _ _ c.in_ok-open.ensures (begin ∙ spells.text) in
@@ -34,7 +34,7 @@ returns-in_err-inputs c =
     rw c.from_residual-in_err-inputs.ensures
     (λ said spells. c.in_err-inputs.ensures said.inputs _ spells.inputs (from_number (goal.at.returns-in_err-inputs c).In_ok-number said spells))
 
-from_inputs : (c : In_ok-inputs) (said : Said) → Spells c.args.line.now said → rest c.inputs.new.cursor ≡ codes " (to" ++ list_text said.pins (codes ")\n")
+from_inputs : (c : In_ok-inputs) (said : Said) → Spells c.args.line.now said → rest c.inputs.new.self ≡ codes " (to" ++ list_text said.pins (codes ")\n")
 from_inputs c said spells =
     let read = c.in_ok-inputs.ensures in
     (inputs_same _ said.inputs _ _ _ read.0 spells.inputs read.1 (from_number (goal.at.In_ok-inputs c).In_ok-number said spells)).1
@@ -51,7 +51,7 @@ returns-in_err-open-2 c =
     let opened = front_same (codes " ") _ _ _ c.in_ok-sign.ensures.1.front (from_inputs (goal.at.returns-in_err-open-2 c).In_ok-inputs said spells) in
     c.in_err-open-2.ensures (list_text said.pins (codes ")\n")) (list_ends_word said.pins (codes ")\n")) opened)
 
-from_word : (c : In_ok-open-2) (said : Said) → Spells c.args.line.now said → rest c.open-2.new.cursor ≡ list_text said.pins (codes ")\n")
+from_word : (c : In_ok-open-2) (said : Said) → Spells c.args.line.now said → rest c.open-2.new.self ≡ list_text said.pins (codes ")\n")
 from_word c said spells =
     let opened = front_same (codes " ") _ _ _ c.in_ok-sign.ensures.1.front (from_inputs (goal.at.In_ok-open-2 c).In_ok-inputs said spells) in
     front_same (codes "(to") _ _ _ c.in_ok-open-2.ensures opened

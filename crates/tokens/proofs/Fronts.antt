@@ -9,8 +9,8 @@ use Rattle.tokens.specs.declared.token.Sign.{Sign}
 use Rattle.tokens.specs.declared.token.Token.{Token}
 use Rattle.tokens.specs.Characters.{sign_text}
 use Rattle.tokens.specs.Cursors.{Ends, EatsSign, rest}
+use Rattle.tokens.specs.Phrases.{IsShort, inputs_text}
 use Rattle.tokens.proofs.Runs.{same_number}
-use Rattle.wire_sheet.specs.Phrases.{IsShort, inputs_text}
 
 pub space_ends_word : (t : List ℕ) → Ends Letter (32 ∷ t)
 space_ends_word t letter = omega (arith, letter.0)
