@@ -1,0 +1,4 @@
+pub mod Counts
+pub mod Damages
+pub mod Requests
+pub mod Texts
