@@ -11,8 +11,8 @@ pub struct Base {
     pub answer: &'static str,
 }
 
-// Lines that meet the same shelf. The probes and the card leave it as it is: the probes are answered fast, and the card
-// asks more of a part.
+// Lines that meet the same shelf. The probes and the card leave it as it is: the probes are parts that stand, and the
+// card fits one of them.
 #[derive(Drop)]
 pub struct Group {
     pub title: &'static str,
@@ -24,10 +24,9 @@ pub struct Group {
 
 type Known = (&'static str, &'static str);
 
-const PROBES: [Known; 3] = [
+const PROBES: [Known; 2] = [
     ("(part 12 (pins 0) (rows 0))\n", "(no 7)\n"),
     ("(part 7 (pins 1) (rows 01))\n", "(no 7)\n"),
-    ("(card (pins 0) (rows 1))\n", "(fit 7 (to) (struck 0))\n"),
 ];
 
 const CARD: Known = (

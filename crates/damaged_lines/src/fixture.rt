@@ -50,7 +50,7 @@ impl<'a> Fixture<'a> {
         room.get(..size) == Some(base.answer.as_bytes())
     }
 
-    // Whether the memory is as it was before, row by row, and the probes are answered as before.
+    // Whether the memory is as it was before, row by row, and the parts stand that stood before.
     pub fn is_as_before(&mut self) -> bool {
         if self.memory.as_slice() != self.before.as_slice() {
             return false;

@@ -53,16 +53,21 @@ fn read(line: &[u8]) -> Option<Call<'_>> {
     if line.len() > 1100 {
         return None;
     }
-    let (rest, last) = last_word(line)?;
-    if rest == b"(drop".as_slice() {
-        let number = number(last.strip_suffix(b")\n")?)?;
+    let line = line.strip_suffix(b")\n")?;
+    if let Some(digits) = line.strip_prefix(b"(drop ") {
+        let number = number(digits)?;
         return Some(Call::Drop { number });
     }
-    let digits = last.strip_suffix(b"))\n")?;
-    if digits.is_empty() || digits.iter().any(|&digit| digit != b'0' && digit != b'1') {
+    let line = line.strip_suffix(b")")?;
+    let size = line
+        .iter()
+        .rev()
+        .position(|&byte| byte != b'0' && byte != b'1')?;
+    let (rest, digits) = line.split_at(line.len() - size);
+    if digits.is_empty() {
         return None;
     }
-    let (rest, inputs) = last_word(rest.strip_suffix(b") (rows")?)?;
+    let (rest, inputs) = last_word(rest.strip_suffix(b") (rows ")?)?;
     let inputs = number(inputs)?;
     if rest == b"(card (pins".as_slice() {
         return Some(Call::Card { inputs, digits });
