@@ -1,5 +1,5 @@
 -- What a damaged line is.
-use Rattle.std.specs.Prelude.{ℕ, ◌+◌, ◌-◌, ◌%◌, List, [], ◌∷◌, ◌++◌, map, insert, remove, slice_index, slice_set}
+use Rattle.std.specs.Prelude.{ℕ, ◌+◌, ◌-◌, ◌%◌, List, ◌∷◌, ◌++◌, map, insert, remove, slice_index, slice_set}
 use Rattle.std.specs.List.{range_with_len}
 use Rattle.damaged_lines.specs.declared.damage.Change.{Change}
 use Rattle.damaged_lines.specs.declared.damage.Change.TheVariants.{Raised, Dropped, Doubled, Inserted}

@@ -1,4 +1,4 @@
-use Rattle.std.proofs.Common.{◌≡◌, ◌+◌, ◌-◌, map, ◌++◌, length}
+use Rattle.std.proofs.Common.{◌≡◌, ◌-◌, map, ◌++◌}
 use Rattle.std.specs.List.{range_with_len}
 use Rattle.damaged_lines.specs.declared.damage.Change.TheVariants.{Raised, Inserted}
 use Rattle.damaged_lines.proofs.damage.changes.Given as goal
