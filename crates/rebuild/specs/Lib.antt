@@ -1,0 +1,10 @@
+pub mod Requests
+pub mod Texts
+pub mod Stocking
+pub mod Samples
+pub mod Sheets
+pub mod Trying
+pub mod Repairs
+pub mod Shown
+pub mod Reading
+pub mod Sizing
