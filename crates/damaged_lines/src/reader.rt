@@ -1,3 +1,7 @@
+ghost use Rattle.std.specs.Prelude.{◌≡◌, ◌==◌, ◌↔◌, if◌then◌else◌, IsTrue};
+ghost use Rattle.rows.specs.declared.on_off.OnOff.TheVariants.{Off, On};
+ghost use Rattle.damaged_lines.specs.declared.reader.Due.TheVariants.{Done};
+
 use crate::stock::{Part, Stock};
 use rows::OnOff;
 
@@ -153,7 +157,9 @@ impl<'a> Due<'a> {
         }
     }
 
-    pub fn changes_the_shelf(self) -> bool {
+    pub fn changes_the_shelf(self) -> bool
+        ensures { IsTrue result ↔ (self.entry ≡ Done) }
+    {
         matches!(self, Due::Done)
     }
 
@@ -221,6 +227,8 @@ fn carried(pins: &[u8], row: usize) -> Option<usize> {
     Some(to)
 }
 
-pub fn on_off(digit: u8) -> OnOff {
+pub fn on_off(digit: u8) -> OnOff
+    ensures { result ≡ (if digit == 49 then On else Off) }
+{
     if digit == b'1' { OnOff::On } else { OnOff::Off }
 }

@@ -1,5 +1,5 @@
-ghost use Rattle.std.specs.Prelude.{map, string_bytes};
-ghost use Rattle.damaged_lines.specs.Requests.{Asks};
+ghost use Rattle.std.specs.Prelude.{◌≡◌, map, string_bytes};
+ghost use Rattle.damaged_lines.specs.Requests.{Asks, draws};
 
 pub const USAGE: &str = "usage: damaged_lines [all]
 
@@ -17,7 +17,9 @@ pub enum Reach {
 
 impl Reach {
     // How often each line is fed with two damages.
-    pub fn twice(self) -> u32 {
+    pub fn twice(self) -> u32
+        ensures { result ≡ draws self }
+    {
         match self {
             Reach::Brief => 0,
             Reach::All => 20_000,

@@ -1,3 +1,5 @@
+ghost use Rattle.std.specs.Prelude.{◌≡◌, ◌≢◌, Contains, All, IfSome, IfNone, nat_le, vec_len};
+
 use inventory::Shelf;
 use refusals::Refusal;
 use rows::OnOff;
@@ -19,11 +21,16 @@ pub struct Stock {
 
 impl Stock {
     // The part of this number.
-    pub fn part(&self, number: u32) -> Option<&Part> {
+    pub fn part(&self, number: u32) -> Option<&Part>
+        ensures found { IfSome result (λ part. Contains self.now.parts.items part.now × (part.now.number ≡ number)) }
+        ensures none { IfNone result (All (λ part. part.number ≢ number) self.now.parts.items) }
+    {
         self.parts.iter().find(|part| part.number == number)
     }
 
-    pub fn is_full(&self) -> bool {
+    pub fn is_full(&self) -> bool
+        ensures { result ≡ nat_le self.now.slots (vec_len self.now.parts) }
+    {
         self.parts.len() >= usize::from(self.slots)
     }
 
