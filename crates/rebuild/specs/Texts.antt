@@ -7,7 +7,6 @@ use Rattle.rebuild.specs.declared.failure.Failure.{Failure}
 use Rattle.rebuild.specs.declared.failure.Failure.TheVariants.{Usage, NotRows, NotAPart, Refused, StockSize, Memory, Output}
 use Rattle.rebuild.specs.declared.failure.Side.{Side}
 use Rattle.rebuild.specs.declared.failure.Side.TheVariants.{Card, Readings, Part}
-use Rattle.rebuild.specs.declared.request.TheConstants.{USAGE}
 
 abbrev pub side_text : Side → List ℕ
 side_text Card = codes "the card"
@@ -15,7 +14,7 @@ side_text Readings = codes "the readings"
 side_text (Part n) = codes "part " ++ decimal n
 
 abbrev pub failure_text : Failure → List ℕ
-failure_text Usage = USAGE.now
+failure_text Usage = codes "rebuild: takes no arguments, or rows of a card, readings and parts N=ROWS; rebuild --help says how to use it"
 failure_text (NotRows side) = codes "rebuild: rows are digits 0 and 1, and those of " ++ side_text side ++ codes " are not"
 failure_text (NotAPart place) =
     codes "rebuild: a part is N=ROWS, its number and its rows in digits 0 and 1, and the part at place " ++ decimal place ++ codes " is not"

@@ -2,7 +2,6 @@ ghost use Rattle.std.specs.Prelude.{◌≡◌, Some};
 ghost use Rattle.rebuild.specs.declared.failure.Failure.TheVariants.{Memory, Output};
 ghost use Rattle.rebuild.specs.Texts.{side_text, failure_text};
 
-use crate::request::USAGE;
 use refusals::Refusal;
 use std::alloc::{AllocError, AllocFailed};
 use std::{fmt, io};
@@ -70,7 +69,10 @@ impl fmt::Display for Failure {
 
     fn fmt<W: fmt::Write>(&self, f: &mut fmt::Formatter<W>) -> fmt::Result {
         match self {
-            Failure::Usage => write!(f, "{USAGE}"),
+            Failure::Usage => write!(
+                f,
+                "rebuild: takes no arguments, or rows of a card, readings and parts N=ROWS; rebuild --help says how to use it"
+            ),
             Failure::NotRows(side) => write!(
                 f,
                 "rebuild: rows are digits 0 and 1, and those of {side} are not"

@@ -1,6 +1,8 @@
 ghost use Rattle.std.specs.Prelude.{map, string_bytes};
 ghost use Rattle.rebuild.specs.Requests.{Asks};
 
+use arguments::asks_for_help;
+
 pub const USAGE: &str = "usage: rebuild [CARD READINGS N=ROWS..]
 
 Rebuilds a burnt card from stock: enters the parts, fits the card, tries the wiring by the readings of a wired
@@ -32,12 +34,12 @@ impl<'a> Request<'a> {
     {
         match args {
             [] => Some(Request::Examples),
-            [word, ..] if word.as_str() == "--help" => Some(Request::Help),
             [card, readings, stock @ ..] if !stock.is_empty() => Some(Request::Repair {
                 card: card.as_str(),
                 readings: readings.as_str(),
                 stock,
             }),
+            _ if asks_for_help(args) => Some(Request::Help),
             _ => None,
         }
     }

@@ -2,7 +2,6 @@ ghost use Rattle.std.specs.Prelude.{◌≡◌, Some};
 ghost use Rattle.rewire.specs.declared.failure.Failure.TheVariants.{Memory, Output};
 ghost use Rattle.rewire.specs.Texts.{side_text, failure_text};
 
-use crate::request::USAGE;
 use refusals::Refusal;
 use std::alloc::AllocError;
 use std::{fmt, io};
@@ -56,7 +55,10 @@ impl fmt::Display for Failure {
 
     fn fmt<W: fmt::Write>(&self, f: &mut fmt::Formatter<W>) -> fmt::Result {
         match self {
-            Failure::Usage => write!(f, "{USAGE}"),
+            Failure::Usage => write!(
+                f,
+                "rewire: takes the rows of a card and of a part; rewire --help says how to use it"
+            ),
             Failure::NotRows(side) => write!(f, "rewire: the {side}'s rows are digits 0 and 1"),
             Failure::Refused(side, refusal) => {
                 let number = refusal.number();

@@ -7,14 +7,13 @@ use Rattle.line_service.specs.declared.service_error.ServiceError.{ServiceError}
 use Rattle.line_service.specs.declared.service_error.ServiceError.TheVariants as service
 use Rattle.shelf.specs.declared.failure.Failure.{Failure}
 use Rattle.shelf.specs.declared.failure.Failure.TheVariants.{Usage, Refused, Memory, Broken}
-use Rattle.shelf.specs.declared.request.TheConstants.{USAGE}
 
 abbrev pub failure_of : ServiceError → Failure
 failure_of (service.Refused refusal) = Refused refusal
 failure_of (service.Io cause) = Broken
 
 abbrev pub failure_text : Failure → List ℕ
-failure_text Usage = USAGE.now
+failure_text Usage = codes "shelf: takes no arguments; shelf --help says how to use it"
 failure_text (Refused refusal) = codes "shelf: refused with " ++ decimal (number refusal) ++ codes ": " ++ text refusal
 failure_text Memory = codes "shelf: out of memory"
 failure_text Broken = codes "shelf: cannot read a line or write an answer"

@@ -2,7 +2,6 @@ ghost use Rattle.std.specs.Prelude.{◌≡◌, Some};
 ghost use Rattle.shelf.specs.declared.failure.Failure.TheVariants.{Refused, Memory, Broken};
 ghost use Rattle.shelf.specs.Texts.{failure_text, failure_of};
 
-use crate::request::USAGE;
 use line_service::ServiceError;
 use refusals::Refusal;
 use std::alloc::AllocError;
@@ -50,7 +49,10 @@ impl fmt::Display for Failure {
 
     fn fmt<W: fmt::Write>(&self, f: &mut fmt::Formatter<W>) -> fmt::Result {
         match self {
-            Failure::Usage => write!(f, "{USAGE}"),
+            Failure::Usage => write!(
+                f,
+                "shelf: takes no arguments; shelf --help says how to use it"
+            ),
             Failure::Refused(refusal) => {
                 let number = refusal.number();
                 write!(f, "shelf: refused with {number}: {refusal}")
