@@ -1,10 +1,9 @@
 -- Rows as tables.
-use Rattle.std.specs.Prelude.{◌≡◌, ◌≢◌, ℕ, ◌^◌, ◌<◌, ◌≤◌, ◌⊎◌, List, map, length, Contains, Ok, Err, vec_items, vec_len, Result, Vec}
+use Rattle.std.specs.Prelude.{◌≡◌, ℕ, List, map, length, Contains, Ok, Err, vec_items, vec_len, Result, Vec}
 use Rattle.std.specs.declared.alloc.Global.{Global}
-use Rattle.refusals.specs.declared.refusal.Refusal.{Refusal}
-use Rattle.refusals.specs.Numbers.{number}
 use Rattle.rows.specs.declared.on_off.OnOff.{OnOff}
 use Rattle.tables.specs.declared.table.Table.{Table}
+use Rattle.typed_rows.specs.Sizing.{NoTable}
 use Rattle.rebuild.specs.declared.failure.Failure.{Failure}
 use Rattle.rebuild.specs.declared.failure.Side.{Side}
 use Rattle.rebuild.specs.declared.failure.Side.TheVariants.{Card, Readings, Part}
@@ -12,12 +11,6 @@ use Rattle.rebuild.specs.declared.failure.Failure.TheVariants.{Usage, NotRows, N
 use Rattle.rebuild.specs.declared.job.Stocked.{Stocked}
 use Rattle.rebuild.specs.declared.typed.TypedPart.{TypedPart}
 use Rattle.rebuild.specs.Reading.{part_text, spelled}
-
--- so many rows are refused as a table: more than 1,024 with 3, and others that are 2^n for no n with 4
-abbrev pub NoTable : ℕ → Refusal → Type 0
-NoTable rows refusal =
-    ((2 ^ 10 < rows) × (number refusal ≡ 3))
-    ⊎ ((rows ≤ 2 ^ 10) × ((n : ℕ) → rows ≢ 2 ^ n) × (number refusal ≡ 4))
 
 abbrev pub SizeError : Side → ℕ → Failure → Type 0
 SizeError side rows Usage = ⊥

@@ -4,18 +4,16 @@ ghost use Rattle.rebuild.specs.Sizing.{IsSized, AreSized};
 use crate::failure::{Failure, Side};
 use crate::job::Stocked;
 use crate::typed::TypedPart;
-use refusals::Refusal;
 use rows::OnOff;
 use std::alloc::Global;
 use tables::Table;
-use typed_rows::inputs_for;
+use typed_rows::table_of;
 
-// The table of these rows, with the number of inputs that so many rows ask for.
+// The table of these rows; where there is none, this side is refused.
 pub fn sized(side: Side, rows: &[OnOff]) -> Result<Table<'_, OnOff>, Failure>
     ensures { IsSized side rows.now result }
 {
-    let inputs = inputs_for(rows.len()).ok_or(Failure::Refused(side, Refusal::TooManyInputs))?;
-    Table::new(inputs, rows).map_err(|refusal| Failure::Refused(side, refusal))
+    table_of(rows).map_err(|refusal| Failure::Refused(side, refusal))
 }
 
 // The parts as tables.

@@ -6,8 +6,8 @@ use Rattle.lists.specs.Pairs.{struck_pairs}
 use Rattle.lists.specs.Spread.{spread}
 use Rattle.fitting.specs.Fits.{Fits}
 use Rattle.typed_rows.specs.Reading.{digit, SpellsNone}
+use Rattle.typed_rows.specs.Sizing.{NoTable}
 use Rattle.typed_rows.specs.declared.size.Size.{Size}
-use Rattle.rewire.specs.Reading.{NoTable}
 use Rattle.rewire.specs.declared.comparison.Comparison.{Comparison}
 use Rattle.rewire.specs.declared.failure.Failure.{Failure}
 use Rattle.rewire.specs.declared.failure.Failure.TheVariants.{Usage, NotRows, Refused, Memory, Output}

@@ -1,10 +1,9 @@
-use Rattle.std.specs.Prelude.{◌≡◌, ℕ, ◌^◌, ◌<◌, ◌≤◌, ◌⊎◌, List, map, length, Ok, Err, vec_items, Result, Vec, ◌≢◌}
+use Rattle.std.specs.Prelude.{◌≡◌, ℕ, List, map, length, Ok, Err, vec_items, Result, Vec}
 use Rattle.std.specs.declared.alloc.Global.{Global}
-use Rattle.refusals.specs.declared.refusal.Refusal.{Refusal}
-use Rattle.refusals.specs.Numbers.{number}
 use Rattle.rows.specs.declared.on_off.OnOff.{OnOff}
 use Rattle.tables.specs.declared.table.Table.{Table}
 use Rattle.typed_rows.specs.Reading.{digit, SpellsNone}
+use Rattle.typed_rows.specs.Sizing.{NoTable}
 use Rattle.rewire.specs.declared.failure.Failure.{Failure}
 use Rattle.rewire.specs.declared.failure.Side.{Side}
 use Rattle.rewire.specs.declared.failure.Failure.TheVariants.{Usage, NotRows, Refused, Memory, Output}
@@ -21,12 +20,6 @@ abbrev pub Read : Side → List ℕ → Result (Vec OnOff Global) Failure → Ty
 Read side text (Ok rows) = text ≡ map digit (vec_items rows)
 Read side text (Err failure) = ReadError side text failure
 
--- so many rows are refused as a table: more than 1,024 with 3, and others that are 2^n for no n with 4
-abbrev pub NoTable : ℕ → Refusal → Type 0
-NoTable rows refusal =
-    ((2 ^ 10 < rows) × (number refusal ≡ 3))
-    ⊎ ((rows ≤ 2 ^ 10) × ((n : ℕ) → rows ≢ 2 ^ n) × (number refusal ≡ 4))
-
 abbrev pub SizeError : Side → ℕ → Failure → Type 0
 SizeError side rows Usage = ⊥
 SizeError side rows (NotRows s) = ⊥
@@ -36,5 +29,5 @@ SizeError side rows Output = ⊥
 
 -- the table of these rows; the side is refused where there is none
 abbrev pub ReadTable : Side → List OnOff → Result (Table OnOff) Failure → Type 0
-ReadTable side rows (Ok table) = (table.inputs ≤ 10) × (length rows ≡ 2 ^ table.inputs) × (table.rows.now ≡ rows)
+ReadTable side rows (Ok table) = table.rows.now ≡ rows
 ReadTable side rows (Err failure) = SizeError side (length rows) failure

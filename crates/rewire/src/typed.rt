@@ -1,11 +1,10 @@
 ghost use Rattle.rewire.specs.Reading.{Read, ReadTable};
 
 use crate::failure::{Failure, Side};
-use refusals::Refusal;
 use rows::OnOff;
 use std::alloc::Global;
 use tables::Table;
-use typed_rows::{RowsError, inputs_for, rows_from};
+use typed_rows::{RowsError, rows_from, table_of};
 
 // The rows that were typed on this side.
 pub fn typed(heap: Global, side: Side, text: &str) -> Result<Vec<OnOff>, Failure>
@@ -17,10 +16,9 @@ pub fn typed(heap: Global, side: Side, text: &str) -> Result<Vec<OnOff>, Failure
     })
 }
 
-// The table of these rows, with the number of inputs that so many rows ask for.
+// The table of the rows that were typed on this side.
 pub fn sized(side: Side, rows: &[OnOff]) -> Result<Table<'_, OnOff>, Failure>
     ensures { ReadTable side rows.now result }
 {
-    let inputs = inputs_for(rows.len()).ok_or(Failure::Refused(side, Refusal::TooManyInputs))?;
-    Table::new(inputs, rows).map_err(|refusal| Failure::Refused(side, refusal))
+    table_of(rows).map_err(|refusal| Failure::Refused(side, refusal))
 }

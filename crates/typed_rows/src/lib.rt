@@ -4,8 +4,9 @@ mod inputs;
 mod reading;
 mod rows_error;
 mod size;
+mod sizing;
 
-pub use inputs::inputs_for;
 pub use reading::{copy_rows, rows_from};
 pub use rows_error::RowsError;
 pub use size::Size;
+pub use sizing::table_of;
