@@ -3,6 +3,7 @@
 mod answering;
 mod begun;
 mod hearing;
+mod reading;
 mod service_error;
 mod serving;
 

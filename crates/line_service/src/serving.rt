@@ -6,6 +6,7 @@ ghost use Rattle.line_service.specs.Service.{Says, Serves, ServesNot, LongLinesA
 use crate::answering::say;
 use crate::begun::Begun;
 use crate::hearing::hear;
+use crate::reading::read_on;
 use crate::service_error::ServiceError;
 use inventory::Shelf;
 use rows::OnOff;
@@ -48,7 +49,7 @@ pub fn serve<P: Signature<OnOff>, R: Read, W: Write>(
     let mut begun = Begun::empty();
     let mut chunk = [0; 4096];
     for _ in 0..u64::MAX {
-        let count = input.read(&mut chunk)?;
+        let count = read_on(input, &mut chunk)?;
         if count == 0 {
             finish(&mut shelf, memory, pile, &begun, output)?;
             return Ok(());

@@ -32,9 +32,9 @@ returns-then-count-eq0-clause-served g c =
       (
         before.0,
         so.0,
-        subst (Consumes (g.R.Read.remaining c.args.input.now) (g.R.Read.remaining c.read.new.self)) (append-nil before.0)
-            (consumes_append (g.R.Read.remaining c.args.input.now) (g.R.Read.remaining c.loop.input) (g.R.Read.remaining c.read.new.self) before.0 [] before.1 nothing),
-        read.1 c.if-count-eq0.true (omega (arith, c.read.auto.buf)),
+        subst (Consumes (g.R.Read.remaining c.args.input.now) (g.R.Read.remaining c.read_on.new.input)) (append-nil before.0)
+            (consumes_append (g.R.Read.remaining c.args.input.now) (g.R.Read.remaining c.loop.input) (g.R.Read.remaining c.read_on.new.input) before.0 [] before.1 nothing),
+        read.1 c.if-count-eq0.true (omega (arith, c.read_on.auto.chunk)),
         so.1,
         so.2,
       ),
@@ -48,11 +48,11 @@ loop-preserved g c =
     let before = c.loop.invariant.1 in
     let read = c.in_ok-count.ensures.bytes in
     let heard = c.in_ok-hear.ensures in
-    let chunk = take c.in_ok-count.count c.read.new.buf in (
+    let chunk = take c.in_ok-count.count c.read_on.new.chunk in (
       omega (arith, c.hear.auto.memory, c.loop.invariant.0, heard.1.2.4),
       (
         before.0 ++ chunk,
-        consumes_append (g.R.Read.remaining c.args.input.now) (g.R.Read.remaining c.loop.input) (g.R.Read.remaining c.read.new.self) before.0 chunk before.1 read.0,
+        consumes_append (g.R.Read.remaining c.args.input.now) (g.R.Read.remaining c.loop.input) (g.R.Read.remaining c.read_on.new.input) before.0 chunk before.1 read.0,
         hears_kept (list_by g.P.Signature.count g.P.Signature.value) c.args.pile.now [] (before.0 ++ chunk) c.hear.new.begun c.in_ok-shelf.shelf c.hear.new.shelf c.args.memory.now c.hear.new.memory (g.W.Write.contents c.args.output.now) (g.W.Write.contents c.hear.new.output) (g.W.Write.contents c.flush.new.self)
             (hears_append (list_by g.P.Signature.count g.P.Signature.value) c.args.pile.now c.in_ok-shelf.shelf c.args.memory.now c.loop.shelf c.loop.memory c.hear.new.shelf c.hear.new.memory
             [] before.0 chunk c.loop.begun c.hear.new.begun (g.W.Write.contents c.args.output.now) (g.W.Write.contents c.loop.output) (g.W.Write.contents c.hear.new.output) before.2 heard)
