@@ -1,4 +1,4 @@
-ghost use Rattle.std.specs.Prelude.{◌≡◌, ◌+◌};
+ghost use Rattle.std.specs.Prelude.{◌≡◌, ◌+◌, if◌then◌else◌};
 ghost use Rattle.damaged_lines.specs.Counts.{at_most};
 
 use crate::reader::refusal;
@@ -23,7 +23,8 @@ impl Tally {
 
     // Counts a line that was fed.
     pub fn count(&mut self, answer: &[u8], differs: bool)
-        ensures { self.new.fed ≡ at_most (self.old.fed + 1) }
+        ensures fed { self.new.fed ≡ at_most (self.old.fed + 1) }
+        ensures differences { self.new.differences ≡ (if differs then at_most (self.old.differences + 1) else self.old.differences) }
     {
         self.fed = self.fed.saturating_add(1);
         match refusal(answer) {
@@ -46,7 +47,9 @@ impl Tally {
     }
 
     pub fn add(&mut self, other: &Tally)
-        ensures { self.new.fed ≡ at_most (self.old.fed + other.now.fed) }
+        ensures fed { self.new.fed ≡ at_most (self.old.fed + other.now.fed) }
+        ensures granted { self.new.granted ≡ at_most (self.old.granted + other.now.granted) }
+        ensures differences { self.new.differences ≡ at_most (self.old.differences + other.now.differences) }
     {
         self.fed = self.fed.saturating_add(other.fed);
         self.granted = self.granted.saturating_add(other.granted);
