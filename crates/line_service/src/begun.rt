@@ -1,3 +1,4 @@
+use arrayvec::ArrayVec;
 use std::marker::Model;
 
 mod growing;
@@ -8,17 +9,14 @@ const KEPT: usize = 1101;
 // The front of the line that is being read. What is past it is not kept, however long the line.
 #[derive(Drop)]
 pub struct Begun {
-    bytes: [u8; KEPT],
-    len: usize,
+    bytes: ArrayVec<u8, KEPT>,
 }
 
 // Clauses see the bytes that are kept.
 impl Model for Begun {
-    ghost use Rattle.std.specs.Prelude.{ℕ, ◌≤◌, List, take};
+    ghost use Rattle.std.specs.Prelude.{ℕ, List};
 
     ghost Value = { List ℕ };
 
-    ghost view = { λ begun. take begun.len begun.bytes };
-
-    ghost invariant = { λ begun. begun.len ≤ 1101 };
+    ghost view = { λ begun. begun.bytes.items };
 }

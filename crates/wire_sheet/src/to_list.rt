@@ -1,22 +1,20 @@
+use arrayvec::ArrayVec;
 use std::marker::Model;
 
 // The pins of a to-list, as far as they can make a wiring. Eleven are enough to see that there are too many, and a pin of
 // 255 or more is kept as 255, which no wiring has.
 #[derive(Drop)]
 pub struct ToList {
-    pins: [u8; 11],
-    len: usize,
+    pins: ArrayVec<u8, 11>,
 }
 
 // Clauses see the pins that are kept.
 impl Model for ToList {
-    ghost use Rattle.std.specs.Prelude.{ℕ, ◌≤◌, List, take};
+    ghost use Rattle.std.specs.Prelude.{ℕ, List};
 
     ghost Value = { List ℕ };
 
-    ghost view = { λ list. take list.len list.pins };
-
-    ghost invariant = { λ list. list.len ≤ 11 };
+    ghost view = { λ list. list.pins.items };
 }
 
 ghost use Rattle.std.specs.Prelude.{◌≡◌, ◌++◌, ◌∷◌, [], min, take};
@@ -26,23 +24,21 @@ impl ToList {
         ensures { result ≡ [] }
     {
         ToList {
-            pins: [0; 11],
-            len: 0,
+            pins: ArrayVec::new(),
         }
     }
 
     pub fn push(&mut self, pin: u32)
         ensures { self.new ≡ take 11 (self.old ++ min pin 255 ∷ []) }
     {
-        if self.len < 11 {
-            self.pins[self.len] = pin.min(255) as u8;
-            self.len += 1;
+        if !self.pins.is_full() {
+            self.pins.push(pin.min(255) as u8);
         }
     }
 
     pub fn pins(&self) -> &[u8]
         ensures { result.now ≡ self.now }
     {
-        &self.pins[..self.len]
+        self.pins.as_slice()
     }
 }

@@ -9,30 +9,31 @@ impl Text {
         ensures value { result ≡ length self.now }
         ensures few { result ≤ 64 }
     {
-        self.as_bytes().len()
+        self.bytes.len()
     }
 
     pub fn is_empty(&self) -> bool
         ensures { result ≡ (length self.now == 0) }
     {
-        self.len == 0
+        self.bytes.is_empty()
     }
 
     pub fn as_bytes(&self) -> &[u8]
         ensures value { result.now ≡ self.now }
         ensures few { length result.now ≤ 64 }
     {
-        &self.bytes[..self.len]
+        self.bytes.as_slice()
     }
 
     // Writes the text into the front of the memory, and answers how long it is.
     pub fn copy_into(&self, memory: &mut [u8]) -> Result<usize, Refusal>
         ensures { Copied self.now memory.old result memory.new }
     {
-        if memory.len() < self.len {
+        let bytes = self.as_bytes();
+        if memory.len() < bytes.len() {
             return Err(Refusal::MemoryTooShort);
         }
-        memory[..self.len].copy_from_slice(self.as_bytes());
-        Ok(self.len)
+        memory[..bytes.len()].copy_from_slice(bytes);
+        Ok(bytes.len())
     }
 }

@@ -3,14 +3,14 @@ ghost use Rattle.std.specs.Fmt.{decimal};
 ghost use Rattle.texts.specs.Pins.{pins_text};
 
 use crate::text::Text;
+use arrayvec::ArrayVec;
 
 impl Text {
     pub fn empty() -> Text
         ensures { result ≡ [] }
     {
         Text {
-            bytes: [0; 64],
-            len: 0,
+            bytes: ArrayVec::new(),
         }
     }
 
@@ -20,9 +20,7 @@ impl Text {
         ensures text { self.new ≡ self.old ++ bytes.now }
         ensures len { length self.new ≡ length self.old + length bytes.now }
     {
-        let end = self.len + bytes.len();
-        self.bytes[self.len..end].copy_from_slice(bytes);
-        self.len = end;
+        self.bytes.try_extend_from_slice(bytes).unwrap();
     }
 
     // The number's decimal digits.
