@@ -1,8 +1,7 @@
-ghost use Rattle.std.specs.Prelude.{◌≡◌, ◌<◌, IsOkAnd};
+ghost use Rattle.std.specs.Prelude.{◌≡◌, ◌<◌, ◌≤◌};
 ghost use Rattle.std.specs.Fn.{iterate};
 ghost use Rattle.draws.specs.Draws.{next, drawn, drawn_row};
 
-use refusals::Refusal;
 use rows::OnOff;
 use std::array;
 use tables::Wiring;
@@ -33,15 +32,16 @@ impl Random {
         }
     }
 
-    // A wiring for ten inputs, by ten draws.
-    pub fn wiring(&mut self) -> Result<Wiring, Refusal>
-        ensures made { IsOkAnd result (λ wiring. wiring.inputs ≡ 10) }
-        ensures state { self.new.0 ≡ iterate next 10 self.old.0 }
+    // A wiring for so many inputs, by as many draws.
+    pub fn wiring(&mut self, inputs: usize) -> Wiring
+        requires { inputs ≤ 10 }
+        ensures inputs { result.inputs ≡ inputs }
+        ensures state { self.new.0 ≡ iterate next inputs self.old.0 }
     {
         let mut pins: [u8; 10] = array::from_fn(|i| i as u8);
-        for i in 0..10 {
-            pins.swap(i, i + self.below(10 - i));
+        for i in 0..inputs {
+            pins.swap(i, i + self.below(inputs - i));
         }
-        Wiring::new(10, &pins)
+        Wiring::new(inputs, &pins[..inputs]).unwrap()
     }
 }

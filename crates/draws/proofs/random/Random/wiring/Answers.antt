@@ -21,6 +21,6 @@ one_less f n i x y li e =
 pub loop-i-preserved : goal.loop-i-preserved
 loop-i-preserved c = record {
   whole = c.swap.ensures.len ∙ c.loop-i.invariant.whole;
-  wires = wires_swapped 10 c.loop-i.pins c.swap.new.self c.loop-i.i _ c.loop-i-test.true (omega arith) c.swap.ensures.by_index c.loop-i.invariant.wires;
-  state = one_less next 10 c.loop-i.i _ _ c.loop-i-test.true c.below.ensures.state ∙ c.loop-i.invariant.state;
+  wires = wires_swapped c.args.inputs c.loop-i.pins c.swap.new.self c.loop-i.i _ c.loop-i-test.true (omega arith) c.swap.ensures.by_index c.loop-i.invariant.wires;
+  state = one_less next c.args.inputs c.loop-i.i _ _ c.loop-i-test.true c.below.ensures.state ∙ c.loop-i.invariant.state;
 }

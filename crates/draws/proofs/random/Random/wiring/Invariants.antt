@@ -7,7 +7,7 @@ use Rattle.draws.proofs.random.Random.wiring.Given as goal
 abbrev pub invariant-loop-i : goal.invariant-loop-i
 invariant-loop-i l = record {
   whole : length l.pins ≡ 10;
-  wires : Wires 10 (pin l.pins);
-  -- the draws that are left end in the state after all ten
-  state : iterate next (10 - l.i) l.self.0 ≡ iterate next 10 l.fn.self.0;
+  wires : Wires l.inputs (pin l.pins);
+  -- the draws that are left end in the state after all of them
+  state : iterate next (l.inputs - l.i) l.self.0 ≡ iterate next l.inputs l.fn.self.0;
 }

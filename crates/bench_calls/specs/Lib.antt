@@ -1,0 +1,3 @@
+pub mod Parts
+pub mod Requests
+pub mod Texts
