@@ -1,4 +1,4 @@
-ghost use Rattle.std.specs.Prelude.{◌<◌, ◌≤◌, [], slice_index_or};
+ghost use Rattle.std.specs.Prelude.{◌≡◌, ◌≤◌, length};
 ghost use Rattle.signatures.specs.Values.{Joined, piled, piled_count};
 
 use crate::signature::Signature;
@@ -6,14 +6,13 @@ use lists::Lists;
 use rows::RowKind;
 use tables::Table;
 
-// The first places of one list, and then another list as far as there is room.
-fn joined(first: &[u32; 64], places: usize, second: &[u32; 64]) -> [u32; 64]
+// Puts another list behind the first places of a list, as far as there is room.
+fn append(list: &mut [u32; 64], places: usize, second: &[u32; 64])
     requires { places ≤ 64 }
-    ensures { Joined places first.now second.now result }
+    ensures joined { Joined places list.old second.now list.new }
+    ensures len { length list.new ≡ 64 }
 {
-    let mut list = *first;
     list[places..].copy_from_slice(&second[..64 - places]);
-    list
 }
 
 // A pile of two: the places of the first and then those of the second, cut off after 64.
@@ -31,24 +30,22 @@ impl<R: RowKind, A: Signature<R>, B: Signature<R>> Signature<R> for Pile<A, B> {
     }
 
     fn list(&self, table: &Table<R>, input: usize) -> [u32; 64] {
-        joined(
-            &self.0.list(table, input),
-            self.0.places(),
-            &self.1.list(table, input),
-        )
+        let mut list = self.0.list(table, input);
+        append(&mut list, self.0.places(), &self.1.list(table, input));
+        list
     }
 
     fn lists(&self, table: &Table<R>) -> Lists {
         let first = self.0.lists(table);
-        let second = self.1.lists(table);
-        Lists::from_fn(
-            table.inputs,
-            self.places(),
-            |input| -> [u32; 64]
-                requires inside { input < 10 }
-                requires short { first.places ≤ 64 }
-                ensures { Joined first.places (slice_index_or first.answers input []) (slice_index_or second.answers input []) result }
-            { joined(&first.answers[input], first.places, &second.answers[input]) },
-        )
+        let second = self.1.lists(table).answers;
+        let mut answers = first.answers;
+        for (input, list) in answers[..table.inputs].iter_mut().enumerate() {
+            append(list, first.places, &second[input]);
+        }
+        Lists {
+            inputs: table.inputs,
+            places: self.places(),
+            answers,
+        }
     }
 }
