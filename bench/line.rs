@@ -26,7 +26,9 @@ fn number(text: &[u8]) -> Option<(u32, &[u8])> {
     if !(1..=5).contains(&end) || digits[0] == b'0' && end > 1 {
         return None;
     }
-    let value = digits.iter().fold(0, |n, digit| n * 10 + u32::from(digit - b'0'));
+    let value = digits
+        .iter()
+        .fold(0, |n, digit| n * 10 + u32::from(digit - b'0'));
     Some((value, rest))
 }
 
