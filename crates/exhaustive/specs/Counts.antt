@@ -1,0 +1,6 @@
+-- How far a count goes.
+use Rattle.std.specs.Prelude.{ℕ, ◌-◌, ◌^◌, min}
+
+-- a count goes no further than 2^64 - 1
+abbrev pub at_most : ℕ → ℕ
+at_most count = min count (2 ^ 64 - 1)

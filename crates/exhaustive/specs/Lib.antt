@@ -1,0 +1,6 @@
+pub mod Codes
+pub mod Doings
+pub mod Agreement
+pub mod Counts
+pub mod Texts
+pub mod Trying

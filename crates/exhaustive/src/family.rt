@@ -1,0 +1,165 @@
+ghost use Rattle.std.specs.Prelude.{◌≡◌, ◌<◌, ◌≤◌};
+
+use crate::comparison::Comparison;
+use crate::drawing::{Relation, Style};
+use crate::failure::Failure;
+use crate::kind::Kind;
+use crate::small_table::{MOST_INPUTS, SmallTable};
+use crate::stock::{Stock, shuffle};
+use draws::Random;
+use std::alloc::{AllocError, Global};
+
+// Each table with each of the few rows in this place.
+fn filled<R: Kind>(
+    heap: Global,
+    tables: &[SmallTable<R>],
+    row: usize,
+) -> Result<Vec<SmallTable<R>>, AllocError>
+    requires { row < 64 }
+{
+    let mut longer = Vec::new(heap);
+    for table in tables {
+        for k in 0..R::FEW {
+            let mut rows = table.rows;
+            rows[row] = R::numbered(k);
+            longer.push(table.with_rows(rows))?;
+        }
+    }
+    Ok(longer)
+}
+
+// Every table of so many inputs, at most six, that is made of few rows.
+pub fn every_table<R: Kind>(heap: Global, inputs: usize) -> Result<Vec<SmallTable<R>>, AllocError> {
+    let blank = SmallTable::blank(inputs.min(MOST_INPUTS));
+    let mut tables = Vec::new(heap);
+    tables.push(blank)?;
+    for row in 0..blank.size() {
+        tables = filled(heap, tables.as_slice(), row)?;
+    }
+    Ok(tables)
+}
+
+// Compares all pairs of these tables.
+pub fn compare_pairs<R: Kind>(
+    comparison: &mut Comparison,
+    tables: &[SmallTable<R>],
+) -> Result<(), Failure> {
+    for card in tables {
+        let card = card.table();
+        comparison.classes(&card)?;
+        for part in tables {
+            comparison.pair(&card, &part.table())?;
+        }
+    }
+    Ok(())
+}
+
+// As many parts as stand on one of the shelves that together hold every table.
+const SHELF_PARTS: usize = 60;
+
+// Fits each card to a shelf of these parts, on which the first of them stood before as well.
+fn compare_shelf<R: Kind>(
+    comparison: &mut Comparison,
+    parts: &[SmallTable<R>],
+    cards: &[SmallTable<R>],
+    random: &mut Random,
+) -> Result<(), Failure> {
+    let Some(passing) = parts.first() else {
+        return Ok(());
+    };
+    let stock = Stock::of(comparison.heap, parts, passing, random)?;
+    for card in cards {
+        comparison.fit(&stock, &card.table())?;
+    }
+    Ok(())
+}
+
+// Fits each table to shelves which together hold all of them, and stand each on one.
+pub fn compare_shelves<R: Kind>(
+    comparison: &mut Comparison,
+    tables: &mut [SmallTable<R>],
+    random: &mut Random,
+) -> Result<(), Failure> {
+    shuffle(tables, random);
+    for parts in tables.chunks(SHELF_PARTS) {
+        compare_shelf(comparison, parts, tables, random)?;
+    }
+    Ok(())
+}
+
+const RELATIONS: [Relation; 8] = [
+    Relation::Exchanged,
+    Relation::Shuffled,
+    Relation::Displaced,
+    Relation::TurnsExchanged,
+    Relation::Altered,
+    Relation::Exchanged,
+    Relation::Carried,
+    Relation::Carried,
+];
+
+// Parts that come from a card, each compared with it, and two of the style with other numbers of inputs.
+fn drawn_parts<R: Kind>(
+    comparison: &mut Comparison,
+    card: &SmallTable<R>,
+    style: Style,
+    random: &mut Random,
+) -> Result<Vec<SmallTable<R>>, Failure> {
+    let mut parts = Vec::new(comparison.heap);
+    parts.push(style.card(card.inputs.saturating_sub(1), random))?;
+    parts.push(style.card((card.inputs + 1).min(MOST_INPUTS), random))?;
+    for relation in RELATIONS {
+        let part = relation.part(card, random);
+        comparison.pair(&card.table(), &part.table())?;
+        comparison.classes(&part.table())?;
+        parts.push(part)?;
+    }
+    Ok(parts)
+}
+
+// Fits a card to a shelf of parts on which the card itself stood.
+fn compare_fit<R: Kind>(
+    comparison: &mut Comparison,
+    card: &SmallTable<R>,
+    parts: &[SmallTable<R>],
+    random: &mut Random,
+) -> Result<(), Failure> {
+    let stock = Stock::of(comparison.heap, parts, card, random)?;
+    comparison.fit(&stock, &card.table())
+}
+
+// Draws a card and parts for it, compares each with the card, and fits the card to a shelf of all of them and to one
+// without the last two, which are those that are meant to agree. The parts are left in the list that is brought.
+fn compare_card<R: Kind>(
+    comparison: &mut Comparison,
+    style: Style,
+    inputs: usize,
+    parts: &mut Vec<SmallTable<R>>,
+    random: &mut Random,
+) -> Result<(), Failure>
+    requires { inputs ≤ 6 }
+{
+    let card = style.card(inputs, random);
+    comparison.classes(&card.table())?;
+    *parts = drawn_parts(comparison, &card, style, random)?;
+    compare_fit(comparison, &card, parts.as_slice(), random)?;
+    parts.truncate(parts.len().saturating_sub(2));
+    compare_fit(comparison, &card, parts.as_slice(), random)
+}
+
+// Compares so many cards of a style that are drawn, with parts for each.
+pub fn compare_drawn<R: Kind>(
+    comparison: &mut Comparison,
+    style: Style,
+    inputs: usize,
+    cards: u32,
+    parts: &mut Vec<SmallTable<R>>,
+    random: &mut Random,
+) -> Result<(), Failure>
+    requires { inputs ≤ 6 }
+{
+    for _ in 0..cards {
+        compare_card(comparison, style, inputs, parts, random)?;
+    }
+    Ok(())
+}

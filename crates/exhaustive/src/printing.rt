@@ -1,0 +1,71 @@
+use crate::kind::Kind;
+use crate::tally::Tally;
+use std::{fmt, io};
+
+// The rows of a table, each by what it does.
+#[derive(Drop)]
+pub struct RowList<'a, R>(pub &'a [R]);
+
+impl<R: Kind> fmt::Display for RowList<'_, R> {
+    fn fmt<W: fmt::Write>(&self, f: &mut fmt::Formatter<W>) -> fmt::Result {
+        write!(f, "(")?;
+        for (r, row) in self.0.iter().enumerate() {
+            let action = row.action();
+            if r > 0 {
+                write!(f, ", ")?;
+            }
+            write!(f, "{action}")?;
+        }
+        write!(f, ")")
+    }
+}
+
+// The pins of a wiring, or that there is none.
+#[derive(Drop)]
+pub struct PinList<'a>(pub Option<&'a [u8]>);
+
+impl fmt::Display for PinList<'_> {
+    fn fmt<W: fmt::Write>(&self, f: &mut fmt::Formatter<W>) -> fmt::Result {
+        let Some(pins) = self.0 else {
+            return write!(f, "no wiring");
+        };
+        write!(f, "(to")?;
+        for pin in pins {
+            write!(f, " {pin}")?;
+        }
+        write!(f, ")")
+    }
+}
+
+pub fn show_head(rt: &HostRuntime) -> io::Result<()> {
+    println!(rt; "what the library answers, compared with trying every wiring")?;
+    println!(rt;
+        "{:<34}{:>9}{:>11}{:>9}{:>9}{:>8}{:>9}{:>8}{:>9}{:>13}",
+        "tables",
+        "pairs",
+        "wirings",
+        "agree",
+        "none",
+        "open",
+        "fits",
+        "no 10",
+        "classes",
+        "differences"
+    )
+}
+
+pub fn show_row(rt: &HostRuntime, title: &str, tally: &Tally) -> io::Result<()> {
+    let Tally {
+        pairs,
+        tried,
+        agree,
+        apart,
+        open,
+        fits,
+        refused,
+        classes,
+        differences,
+    } = tally;
+    print!(rt; "{title:<34}{pairs:>9}{tried:>11}{agree:>9}{apart:>9}{open:>8}")?;
+    println!(rt; "{fits:>9}{refused:>8}{classes:>9}{differences:>13}")
+}

@@ -1,0 +1,127 @@
+ghost use Rattle.exhaustive.specs.Agreement.{worth_of};
+ghost use Rattle.std.specs.Prelude.{◌≡◌, ◌≤◌, ◌^◌, length, take, ⊤};
+
+use crate::kind::Kind;
+use std::alloc::AllocError;
+use tables::Table;
+
+// At most so many inputs are compared.
+pub const MOST_INPUTS: usize = 6;
+
+// What the bit of an input is worth in a row, and how many rows a table of so many inputs has: 2^k, and 64 past the
+// sixth.
+pub fn worth(k: usize) -> usize
+    ensures some { 1 ≤ result }
+    ensures most { result ≤ 64 }
+    ensures value { result ≡ worth_of k }
+{
+    match k {
+        0 => 1,
+        1 => 2,
+        2 => 4,
+        3 => 8,
+        4 => 16,
+        5 => 32,
+        _ => 64,
+    }
+}
+
+// A table of at most six inputs: its rows are the first 2^n.
+pub struct SmallTable<R> {
+    pub inputs: usize,
+    size: usize,
+    pub rows: [R; 64],
+    ghost few: { inputs ≤ 6 },
+    ghost some: { 1 ≤ size },
+    ghost most: { size ≤ 64 },
+    ghost sized: { size ≡ 2 ^ inputs },
+    ghost whole: { length rows ≡ 64 },
+}
+
+impl<R: Copy> Clone for SmallTable<R> {
+    ghost is_clone = { λ table copy. copy ≡ table };
+
+    ghost is_infallible = { λ _. ⊤ };
+
+    fn clone(&self) -> Result<SmallTable<R>, AllocError> {
+        Ok(*self)
+    }
+}
+
+impl<R: Copy> Copy for SmallTable<R> {}
+
+impl<R: Kind> SmallTable<R> {
+    pub fn blank(inputs: usize) -> SmallTable<R>
+        requires { inputs ≤ 6 }
+        ensures { result.inputs ≡ inputs }
+    {
+        SmallTable {
+            inputs,
+            size: worth(inputs),
+            rows: [R::numbered(0); 64],
+        }
+    }
+
+    // The table of as many inputs with these rows.
+    pub fn with_rows(&self, rows: [R; 64]) -> SmallTable<R>
+        ensures inputs { result.inputs ≡ self.now.inputs }
+        ensures rows { result.rows ≡ rows }
+    {
+        SmallTable {
+            inputs: self.inputs,
+            size: self.size,
+            rows,
+        }
+    }
+
+    pub fn size(&self) -> usize
+        ensures { result ≡ self.now.size }
+    {
+        self.size
+    }
+
+    pub fn rows(&self) -> &[R]
+        ensures { result.now ≡ take self.now.size self.now.rows }
+    {
+        &self.rows[..self.size]
+    }
+
+    pub fn table(&self) -> Table<'_, R>
+        ensures inputs { result.inputs ≡ self.now.inputs }
+        ensures rows { result.rows.now ≡ take self.now.size self.now.rows }
+    {
+        Table {
+            inputs: self.inputs,
+            rows: self.rows(),
+        }
+    }
+}
+
+// A number for each row of a table.
+#[derive(Clone, Copy)]
+pub struct Codes {
+    size: usize,
+    codes: [u16; 64],
+    ghost most: { size ≤ 64 },
+    ghost whole: { length codes ≡ 64 },
+}
+
+impl Codes {
+    // What the part does in each row.
+    pub fn of<R: Kind>(rows: &[R]) -> Codes {
+        let mut codes = [0; 64];
+        for (code, row) in codes.iter_mut().zip(rows) {
+            *code = row.action().code();
+        }
+        Codes {
+            size: rows.len().min(64),
+            codes,
+        }
+    }
+
+    pub fn as_slice(&self) -> &[u16]
+        ensures { result.now ≡ take self.now.size self.now.codes }
+    {
+        &self.codes[..self.size]
+    }
+}
