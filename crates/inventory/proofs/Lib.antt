@@ -1,4 +1,5 @@
 pub mod Choosing
+pub mod Fronts
 pub mod Labels
 pub mod Measuring
 pub mod Places

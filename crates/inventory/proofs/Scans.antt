@@ -40,6 +40,12 @@ module _ {X : Type 0} (test : X → Bool) where
       ]
 
   -- none passes from some place on
+  pub any_front : (xs : List X) (n : ℕ) (d : X) → ((k : ℕ) → n ≤ k → test (get_or xs k d) ≡ false) → any test (take n xs) ≡ any test xs
+  any_front [] zero d off = refl
+  any_front [] (suc n) d off = refl
+  any_front (x ∷ xs) zero d off = any_front xs 0 d (λ k le. off (suc k) (omega arith)) ∙ ap (λ b. b || any test xs) (sym (off 0 (omega arith)))
+  any_front (x ∷ xs) (suc n) d off = ap (λ b. test x || b) (any_front xs n d (λ k le. off (suc k) (omega arith)))
+
   pub count_front : (xs : List X) (n : ℕ) (d : X) → ((k : ℕ) → n ≤ k → test (get_or xs k d) ≡ false) → count_by test (take n xs) ≡ count_by test xs
   count_front [] zero d off = refl
   count_front [] (suc n) d off = refl

@@ -25,14 +25,14 @@ impl Shelf {
     pub(crate) fn slot_of(&self, number: u32) -> Result<usize, Refusal>
         ensures { Outcome (first (not (labelled number self.now.slots)) 9 none) (λ k. (k < self.now.count) × (has number (slice_index_or self.now.slots k None) ≡ true)) result }
     {
-        find(&self.slots, number).ok_or(Refusal::NumberDoesNotStand)
+        find(&self.slots[..self.count], number).ok_or(Refusal::NumberDoesNotStand)
     }
 
     // A free slot for a part of this number: the first one.
     pub(crate) fn room_for(&self, number: u32) -> Result<usize, Refusal>
         ensures { Outcome (first (labelled number self.now.slots) 7 (first (full self.now.count self.now.slots) 8 none)) (λ k. (k < self.now.count) × (slice_index_or self.now.slots k None ≡ None) × (labelled number self.now.slots ≡ false)) result }
     {
-        if find(&self.slots, number).is_some() {
+        if find(&self.slots[..self.count], number).is_some() {
             return Err(Refusal::NumberStands);
         }
         find_free(&self.slots[..self.count]).ok_or(Refusal::ShelfFull)
