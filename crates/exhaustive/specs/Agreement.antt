@@ -1,5 +1,5 @@
 -- When a card and a part agree, in this program's own words: rows are numbers, and a wiring is the list of its pins.
-use Rattle.std.specs.Prelude.{◌≡◌, ◌≢◌, ℕ, ◌+◌, ◌*◌, ◌/◌, ◌%◌, ◌^◌, ◌<◌, List, [], ◌∷◌, length, slice_get, min}
+use Rattle.std.specs.Prelude.{◌≡◌, ℕ, ◌+◌, ◌*◌, ◌/◌, ◌%◌, ◌^◌, ◌<◌, List, [], ◌∷◌, length, slice_get, min}
 
 -- what the bit of a pin is worth, and 64 past the sixth
 abbrev pub worth_of : ℕ → ℕ

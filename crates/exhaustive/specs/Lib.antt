@@ -4,3 +4,4 @@ pub mod Agreement
 pub mod Counts
 pub mod Texts
 pub mod Trying
+pub mod Requests

@@ -60,12 +60,12 @@ pub fn show_row(rt: &HostRuntime, title: &str, tally: &Tally) -> io::Result<()> 
         tried,
         agree,
         apart,
-        open,
+        left_open,
         fits,
         refused,
         classes,
         differences,
     } = tally;
-    print!(rt; "{title:<34}{pairs:>9}{tried:>11}{agree:>9}{apart:>9}{open:>8}")?;
+    print!(rt; "{title:<34}{pairs:>9}{tried:>11}{agree:>9}{apart:>9}{left_open:>8}")?;
     println!(rt; "{fits:>9}{refused:>8}{classes:>9}{differences:>13}")
 }

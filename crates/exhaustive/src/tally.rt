@@ -1,4 +1,4 @@
-ghost use Rattle.std.specs.Prelude.{◌≡◌, ◌+◌};
+ghost use Rattle.std.specs.Prelude.{◌≡◌, ◌+◌, ◌&&◌, ◌==◌, if◌then◌else◌, nat_lt};
 ghost use Rattle.exhaustive.specs.Counts.{at_most};
 
 // What was compared.
@@ -11,7 +11,7 @@ pub struct Tally {
     // wiring.
     pub agree: u64,
     pub apart: u64,
-    pub open: u64,
+    pub left_open: u64,
     // Cards fitted to a shelf, and how many of these found no part.
     pub fits: u64,
     pub refused: u64,
@@ -26,7 +26,7 @@ impl Tally {
         tried: 0,
         agree: 0,
         apart: 0,
-        open: 0,
+        left_open: 0,
         fits: 0,
         refused: 0,
         classes: 0,
@@ -38,7 +38,10 @@ impl Tally {
     pub fn pair(&mut self, tried: usize, agreeing: usize, spread: u32)
         ensures pairs { self.new.pairs ≡ at_most (self.old.pairs + 1) }
         ensures tried { self.new.tried ≡ at_most (self.old.tried + tried) }
-        ensures differences { self.new.differences ≡ self.old.differences }
+        ensures agree { self.new.agree ≡ (if agreeing == 0 then self.old.agree else at_most (self.old.agree + 1)) }
+        ensures apart { self.new.apart ≡ (if agreeing == 0 then at_most (self.old.apart + 1) else self.old.apart) }
+        ensures left_open { self.new.left_open ≡ (if agreeing == 0 && nat_lt 0 spread then at_most (self.old.left_open + 1) else self.old.left_open) }
+        ensures others { (self.new.fits ≡ self.old.fits) × (self.new.refused ≡ self.old.refused) × (self.new.classes ≡ self.old.classes) × (self.new.differences ≡ self.old.differences) }
     {
         self.pairs = self.pairs.saturating_add(1);
         self.tried = self.tried.saturating_add(tried as u64);
@@ -47,14 +50,13 @@ impl Tally {
         } else {
             self.apart = self.apart.saturating_add(1);
             if spread > 0 {
-                self.open = self.open.saturating_add(1);
+                self.left_open = self.left_open.saturating_add(1);
             }
         }
     }
 
     pub fn fit(&mut self, found: bool)
-        ensures fits { self.new.fits ≡ at_most (self.old.fits + 1) }
-        ensures differences { self.new.differences ≡ self.old.differences }
+        ensures { self.new ≡ record self.old { fits = at_most (self.old.fits + 1); refused = if found then self.old.refused else at_most (self.old.refused + 1) } }
     {
         self.fits = self.fits.saturating_add(1);
         if !found {
@@ -76,13 +78,20 @@ impl Tally {
 
     pub fn add(&mut self, other: &Tally)
         ensures pairs { self.new.pairs ≡ at_most (self.old.pairs + other.now.pairs) }
+        ensures tried { self.new.tried ≡ at_most (self.old.tried + other.now.tried) }
+        ensures agree { self.new.agree ≡ at_most (self.old.agree + other.now.agree) }
+        ensures apart { self.new.apart ≡ at_most (self.old.apart + other.now.apart) }
+        ensures left_open { self.new.left_open ≡ at_most (self.old.left_open + other.now.left_open) }
+        ensures fits { self.new.fits ≡ at_most (self.old.fits + other.now.fits) }
+        ensures refused { self.new.refused ≡ at_most (self.old.refused + other.now.refused) }
+        ensures classes { self.new.classes ≡ at_most (self.old.classes + other.now.classes) }
         ensures differences { self.new.differences ≡ at_most (self.old.differences + other.now.differences) }
     {
         self.pairs = self.pairs.saturating_add(other.pairs);
         self.tried = self.tried.saturating_add(other.tried);
         self.agree = self.agree.saturating_add(other.agree);
         self.apart = self.apart.saturating_add(other.apart);
-        self.open = self.open.saturating_add(other.open);
+        self.left_open = self.left_open.saturating_add(other.left_open);
         self.fits = self.fits.saturating_add(other.fits);
         self.refused = self.refused.saturating_add(other.refused);
         self.classes = self.classes.saturating_add(other.classes);
