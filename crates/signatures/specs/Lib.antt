@@ -1,4 +1,5 @@
 pub mod Law
+pub mod Writing
 pub mod Values
 pub mod Counted
 pub mod Eithers

@@ -1,6 +1,5 @@
 -- What each signature answers, for a table of n inputs, an input i and a place p.
-use Rattle.std.specs.Prelude.{◌≡◌, ℕ, zero, suc, ◌+◌, ◌-◌, ◌*◌, ◌%◌, ◌^◌, ◌<◌, min, Bool, if◌then◌else◌, List, [], ◌∷◌, map, drop, ◌==◌, count_ones, nat_lt, slice_index, slice_index_or}
-use Rattle.lists.specs.declared.lists.Lists.{Lists}
+use Rattle.std.specs.Prelude.{ℕ, zero, suc, ◌+◌, ◌-◌, ◌*◌, ◌%◌, ◌^◌, min, Bool, if◌then◌else◌, List, [], ◌∷◌, map, drop, ◌==◌, count_ones, nat_lt, slice_index, slice_index_or}
 use Rattle.tables.specs.Sums.{sum_to}
 use Rattle.tables.specs.Agreement.{bit}
 
@@ -30,8 +29,8 @@ module _ {R : Type 0} (weight : R → ℕ) where
   paired n rows i k = sum_to (2 ^ n) (λ r. where_on i r (where_on k r (weight_at rows r)))
 
   -- over the lists below: each other input's answer, by the weight that it shares with i
-  abbrev pub refined_from : Lists → ℕ → List R → ℕ → ℕ → ℕ
-  refined_from below n rows i p = refined_sum n i (paired n rows i) (λ k. slice_index (slice_index_or below.answers k []) p)
+  abbrev pub refined_from : List (List ℕ) → ℕ → List R → ℕ → ℕ → ℕ
+  refined_from below n rows i p = refined_sum n i (paired n rows i) (λ k. slice_index (slice_index_or below k []) p)
 
   -- over what a signature below answers: each other input's answer, by the weight that it shares with i
   abbrev pub refined : (ℕ → List R → ℕ → ℕ → ℕ) → ℕ → List R → ℕ → ℕ → ℕ
@@ -59,10 +58,6 @@ module _ {R : Type 0} (same : R → R → Bool) (weight : R → ℕ) where
 -- the places of two, cut off after 64
 abbrev pub piled_count : ℕ → ℕ → ℕ
 piled_count a b = min (a + b) 64
-
--- list has the first a places of one list and then another list, as far as there is room
-abbrev pub Joined : ℕ → List ℕ → List ℕ → List ℕ → Type 0
-Joined a first second list = (p : ℕ) → p < 64 → slice_index list p ≡ (if nat_lt p a then slice_index first p else slice_index second (p - a))
 
 -- the first's answer at its a places, and the second's from there on
 abbrev pub piled : {R : Type 0} → ℕ → (ℕ → List R → ℕ → ℕ → ℕ) → (ℕ → List R → ℕ → ℕ → ℕ) → ℕ → List R → ℕ → ℕ → ℕ

@@ -1,7 +1,6 @@
 ghost use Rattle.signatures.specs.Eithers.{either_count, either_value};
 
 use crate::signature::Signature;
-use lists::Lists;
 use rows::RowKind;
 use tables::Table;
 
@@ -24,17 +23,10 @@ impl<R: RowKind, A: Signature<R>, B: Signature<R>> Signature<R> for Either<A, B>
         }
     }
 
-    fn list(&self, table: &Table<R>, input: usize) -> [u32; 64] {
+    fn write(&self, table: &Table<R>, from: usize, answers: &mut [[u32; 64]; 10]) {
         match self {
-            Either::First(a) => a.list(table, input),
-            Either::Second(b) => b.list(table, input),
-        }
-    }
-
-    fn lists(&self, table: &Table<R>) -> Lists {
-        match self {
-            Either::First(a) => a.lists(table),
-            Either::Second(b) => b.lists(table),
+            Either::First(a) => a.write(table, from, answers),
+            Either::Second(b) => b.write(table, from, answers),
         }
     }
 }

@@ -6,6 +6,7 @@ mod cofactor;
 mod either;
 mod literature;
 mod neighbour;
+mod per_input;
 mod pile;
 mod refined;
 mod signature;

@@ -1,6 +1,8 @@
+ghost use Rattle.signatures.specs.Law.{given};
 ghost use Rattle.signatures.specs.Values.{neighbour};
 ghost use Rattle.signatures.specs.Counted.{Counted};
 
+use crate::per_input::{PerInput, add_at, write_each};
 use crate::signature::Signature;
 use crate::weights::is_on;
 use rows::RowKind;
@@ -26,6 +28,21 @@ fn place_of<R: RowKind>(off: &R, on: &R) -> Option<usize>
 #[derive(Clone, Copy)]
 pub struct Neighbour;
 
+impl<R: RowKind> PerInput<R> for Neighbour {
+    ghost says = { λ _. given 3 (neighbour R.RowKind.same R.RowKind.weight) };
+
+    fn put(&self, table: &Table<R>, input: usize, room: &mut [u32]) {
+        let bit = 1usize << input;
+        for (r, on) in table.rows.iter().enumerate() {
+            if is_on(r, input) {
+                if let Some(place) = place_of(&table.rows[r - bit], on) {
+                    add_at(room, place, 1);
+                }
+            }
+        }
+    }
+}
+
 impl<R: RowKind> Signature<R> for Neighbour {
     ghost count = { λ _. 3 };
 
@@ -35,19 +52,7 @@ impl<R: RowKind> Signature<R> for Neighbour {
         3
     }
 
-    fn list(&self, table: &Table<R>, input: usize) -> [u32; 64] {
-        let mut list = [0; 64];
-        if input >= table.inputs {
-            return list;
-        }
-        let bit = 1usize << input;
-        for (r, on) in table.rows.iter().enumerate() {
-            if is_on(r, input) {
-                if let Some(place) = place_of(&table.rows[r - bit], on) {
-                    list[place] += 1;
-                }
-            }
-        }
-        list
+    fn write(&self, table: &Table<R>, from: usize, answers: &mut [[u32; 64]; 10]) {
+        write_each(self, table, from, answers);
     }
 }

@@ -2,9 +2,9 @@ ghost use Rattle.std.specs.Prelude.{◌≡◌, ℕ, ◌<◌, ◌≤◌, [], ◌�
 ghost use Rattle.signatures.specs.Law.{given};
 ghost use Rattle.signatures.specs.Values.{paired, refined, refined_from, refined_sum};
 
+use crate::per_input::{PerInput, write_each};
 use crate::signature::Signature;
 use crate::weights::{is_on, weight_where};
-use lists::Lists;
 use rows::RowKind;
 use tables::Table;
 
@@ -22,14 +22,21 @@ fn pair_weights<R: RowKind>(table: &Table<R>, input: usize) -> [u32; 10]
 
 // One answer, from the weights that the input shares with each other input and from their answers below. A weight is at
 // most a quarter of 1,024 rows of 255, so that the sum is at most 9 × 65,280 × 4,096 = 2,406,481,920.
-fn refine(below: &Lists, pairs: &[u32; 10], input: usize, place: usize) -> u32
-    requires input_in { input < below.now.inputs }
+fn refine(
+    inputs: usize,
+    below: &[[u32; 64]; 10],
+    pairs: &[u32; 10],
+    input: usize,
+    place: usize,
+) -> u32
+    requires few { inputs ≤ 10 }
+    requires input_in { input < inputs }
     requires place_in { place < 64 }
-    requires light { (k : ℕ) → k < below.now.inputs → k ≢ input → slice_index pairs.now k ≤ 65280 }
-    ensures { result ≡ refined_sum below.now.inputs input (λ k. slice_index pairs.now k) (λ k. slice_index (slice_index_or below.now.answers k []) place) }
+    requires light { (k : ℕ) → k < inputs → k ≢ input → slice_index pairs.now k ≤ 65280 }
+    ensures { result ≡ refined_sum inputs input (λ k. slice_index pairs.now k) (λ k. slice_index (slice_index_or below.now k []) place) }
 {
     let mut sum = 0;
-    for (k, answers) in below.answers[..below.inputs].iter().enumerate() {
+    for (k, answers) in below[..inputs].iter().enumerate() {
         if k != input {
             sum += pairs[k] * (1 + answers[place] % 4096);
         }
@@ -37,18 +44,24 @@ fn refine(below: &Lists, pairs: &[u32; 10], input: usize, place: usize) -> u32
     sum
 }
 
-fn refined_list<R: RowKind>(table: &Table<R>, below: &Lists, input: usize) -> [u32; 64]
-    requires { below.now.inputs ≡ table.now.inputs }
-    ensures { (p : ℕ) → slice_index result p ≡ given below.now.places (refined_from R.RowKind.weight below.now) table.now.inputs table.now.rows.now input p }
-{
-    let mut list = [0; 64];
-    if input < table.inputs {
+// What the signature below answers, which is asked for once for a table.
+#[derive(Clone, Copy)]
+struct Below<'a> {
+    places: usize,
+    answers: &'a [[u32; 64]; 10],
+    ghost short: { places ≤ 64 },
+}
+
+impl<R: RowKind> PerInput<R> for Below<'_> {
+    ghost says = { λ s. given s.places (refined_from R.RowKind.weight s.answers.now) };
+
+    fn put(&self, table: &Table<R>, input: usize, room: &mut [u32]) {
         let pairs = pair_weights(table, input);
-        for (place, answer) in list[..below.places].iter_mut().enumerate() {
-            *answer = refine(below, &pairs, input, place);
+        let places = self.places.min(room.len());
+        for (place, answer) in room[..places].iter_mut().enumerate() {
+            *answer = refine(table.inputs, self.answers, &pairs, input, place);
         }
     }
-    list
 }
 
 // Refines the signature below it: an input is told by what the signature says of the inputs that it shares weight with.
@@ -64,20 +77,13 @@ impl<R: RowKind, S: Signature<R>> Signature<R> for Refined<S> {
         self.0.places()
     }
 
-    fn list(&self, table: &Table<R>, input: usize) -> [u32; 64] {
-        refined_list(table, &self.0.lists(table), input)
-    }
-
-    // The lists below are asked for once.
-    fn lists(&self, table: &Table<R>) -> Lists {
-        let below = self.0.lists(table);
-        Lists::from_fn(
-            table.inputs,
-            self.places(),
-            |input| -> [u32; 64]
-                requires { below.inputs ≡ table.now.inputs }
-                ensures { (p : ℕ) → slice_index result p ≡ given below.places (refined_from R.RowKind.weight below) table.entry.now.inputs table.entry.now.rows.now input p }
-            { refined_list(table, &below, input) },
-        )
+    fn write(&self, table: &Table<R>, from: usize, answers: &mut [[u32; 64]; 10]) {
+        let mut below = [[0; 64]; 10];
+        self.0.write(table, 0, &mut below);
+        let below = Below {
+            places: self.0.places(),
+            answers: &below,
+        };
+        write_each(&below, table, from, answers);
     }
 }

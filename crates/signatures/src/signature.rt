@@ -1,5 +1,6 @@
-ghost use Rattle.std.specs.Prelude.{◌≡◌, ℕ, ◌≤◌, List, length, slice_index};
+ghost use Rattle.std.specs.Prelude.{◌≡◌, ℕ, ◌≤◌, List};
 ghost use Rattle.signatures.specs.Law.{Lawful, given, asked, GivesLists};
+ghost use Rattle.signatures.specs.Writing.{AllFree, Written};
 
 use lists::Lists;
 use rows::RowKind;
@@ -19,22 +20,24 @@ pub trait Signature<R: RowKind> {
         ensures few { result ≤ 64 }
         ensures lawful { Lawful (count self.now) (value self.now) R.RowKind.same };
 
-    // The answers for an input at all places, in order, and 0 past them; all 0 where there is no such input.
-    fn list(&self, table: &Table<R>, input: usize) -> [u32; 64]
-        ensures { (p : ℕ) → slice_index result p ≡ given (count self.now) (value self.now) table.now.inputs table.now.rows.now input p };
+    // Writes the answers of each input into its list, from a place on and as far as there is room.
+    fn write(&self, table: &Table<R>, from: usize, answers: &mut [[u32; 64]; 10])
+        requires from { from ≤ 64 }
+        requires free { AllFree table.now.inputs from answers.old }
+        ensures { Written table.now.inputs from (given (count self.now) (value self.now) table.now.inputs table.now.rows.now) answers.old answers.new };
 
     // The lists of all inputs.
     fn lists(&self, table: &Table<R>) -> Lists
         ensures gives { GivesLists (count self.now) (value self.now) table.now.inputs table.now.rows.now result }
         ensures lawful { Lawful (count self.now) (value self.now) R.RowKind.same }
     {
-        Lists::from_fn(
-            table.inputs,
-            self.places(),
-            |input| -> [u32; 64]
-                ensures { (p : ℕ) → slice_index result p ≡ given (count self.entry.now) (value self.entry.now) table.entry.now.inputs table.entry.now.rows.now input p }
-            { self.list(table, input) },
-        )
+        let mut answers = [[0; 64]; 10];
+        self.write(table, 0, &mut answers);
+        Lists {
+            inputs: table.inputs,
+            places: self.places(),
+            answers,
+        }
     }
 
     // One answer, and 0 where the rows are no table of so many inputs, or there is no such input or place.
@@ -44,9 +47,9 @@ pub trait Signature<R: RowKind> {
         let Ok(table) = Table::new(inputs, rows) else {
             return 0;
         };
-        if place >= self.places() {
+        if input >= inputs || place >= self.places() {
             return 0;
         }
-        self.list(&table, input)[place]
+        self.lists(&table).answers[input][place]
     }
 }
