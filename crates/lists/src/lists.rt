@@ -1,6 +1,5 @@
 ghost use Rattle.std.specs.Prelude.{◌≡◌, ◌≤◌, length};
 
-mod making;
 mod reading;
 
 // For each input of a table its list: its answers at every place, in order. Rows past the inputs and answers past the
