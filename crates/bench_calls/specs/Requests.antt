@@ -6,7 +6,7 @@ use Rattle.bench_calls.specs.declared.drawing.Relation.{Relation}
 use Rattle.bench_calls.specs.declared.drawing.Relation.TheVariants.{Agreeing, NearMiss, Unrelated}
 use Rattle.bench_calls.specs.declared.job.Job.{Job}
 use Rattle.bench_calls.specs.declared.job.What.{What}
-use Rattle.bench_calls.specs.declared.job.What.TheVariants.{Lists, Search, BlankSearch, Fit, PartLine, DropLine, CardLine}
+use Rattle.bench_calls.specs.declared.job.What.TheVariants.{Lists, Search, BareSearch, Fit, PartLine, DropLine, CardLine}
 use Rattle.bench_calls.specs.declared.request.Request.{Request}
 use Rattle.bench_calls.specs.declared.request.Request.TheVariants.{Help, Measure}
 
@@ -15,9 +15,9 @@ name Lists = codes "lists"
 name (Search Agreeing) = codes "agreeing"
 name (Search NearMiss) = codes "near"
 name (Search Unrelated) = codes "unrelated"
-name (BlankSearch Agreeing) = codes "blank-agreeing"
-name (BlankSearch NearMiss) = codes "blank-near"
-name (BlankSearch Unrelated) = codes "blank-unrelated"
+name (BareSearch Agreeing) = codes "bare-agreeing"
+name (BareSearch NearMiss) = codes "bare-near"
+name (BareSearch Unrelated) = codes "bare-unrelated"
 name Fit = codes "fit"
 name PartLine = codes "part"
 name DropLine = codes "drop"

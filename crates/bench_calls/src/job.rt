@@ -3,13 +3,13 @@ ghost use Rattle.std.specs.Prelude.{◌≡◌, ◌≤◌, Some};
 use crate::drawing::Relation;
 use std::fmt;
 
-// What is measured: the lists of a table, the search for a wiring with the standard pile or the blank one, a fit, and the
+// What is measured: the lists of a table, the search for a wiring with the standard pile or without signatures, a fit, and the
 // line call on a line of each form.
 #[derive(Clone, Copy)]
 pub enum What {
     Lists,
     Search(Relation),
-    BlankSearch(Relation),
+    BareSearch(Relation),
     Fit,
     PartLine,
     DropLine,
@@ -40,9 +40,9 @@ impl What {
             What::Search(Relation::Agreeing) => "agreeing",
             What::Search(Relation::NearMiss) => "near",
             What::Search(Relation::Unrelated) => "unrelated",
-            What::BlankSearch(Relation::Agreeing) => "blank-agreeing",
-            What::BlankSearch(Relation::NearMiss) => "blank-near",
-            What::BlankSearch(Relation::Unrelated) => "blank-unrelated",
+            What::BareSearch(Relation::Agreeing) => "bare-agreeing",
+            What::BareSearch(Relation::NearMiss) => "bare-near",
+            What::BareSearch(Relation::Unrelated) => "bare-unrelated",
             What::Fit => "fit",
             What::PartLine => "part",
             What::DropLine => "drop",

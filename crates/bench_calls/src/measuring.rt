@@ -6,12 +6,13 @@ use crate::stock::Stock;
 use draws::Random;
 use fitting::wiring_by;
 use inventory::Shelf;
+use matching::{Strikes, first_wiring};
 use refusals::Refusal;
 use rows::OnOff;
 use shelf_line::answer_line;
-use signatures::{Blank, STANDARD_PILE, Signature};
+use signatures::{STANDARD_PILE, Signature};
 use std::alloc::{AllocError, Global};
-use tables::Table;
+use tables::{Table, Wiring};
 
 // Every answer has room in so many bytes.
 const ROOM: usize = 64;
@@ -51,11 +52,20 @@ struct Pair {
     part: Vec<OnOff>,
 }
 
-fn sum_of_search<P: Signature<OnOff>>(
+// The wiring of a card and a part, with the standard pile or by the search alone.
+fn wiring(card: &Table<OnOff>, part: &Table<OnOff>, signatures: bool) -> Option<Wiring> {
+    if signatures {
+        wiring_by(&STANDARD_PILE, card, part)
+    } else {
+        first_wiring(card, part, &Strikes::none())
+    }
+}
+
+fn sum_of_search(
     heap: Global,
     job: &Job,
     relation: Relation,
-    pile: &P,
+    signatures: bool,
 ) -> Result<u64, Failure> {
     let mut random = Random(1);
     let mut pairs = Vec::new(heap);
@@ -71,7 +81,7 @@ fn sum_of_search<P: Signature<OnOff>>(
     for pair in pairs.as_slice().iter().cycle().take(job.times) {
         let card = Table::new(job.inputs, pair.card.as_slice())?;
         let part = Table::new(job.inputs, pair.part.as_slice())?;
-        sum = match wiring_by(pile, &card, &part) {
+        sum = match wiring(&card, &part, signatures) {
             Some(wiring) => wiring
                 .pins()
                 .iter()
@@ -167,8 +177,8 @@ fn sum_of_drop_lines(heap: Global, job: &Job) -> Result<u64, Failure> {
 pub fn sum_of(heap: Global, job: &Job) -> Result<u64, Failure> {
     match job.what {
         What::Lists => sum_of_lists(heap, job),
-        What::Search(relation) => sum_of_search(heap, job, relation, &STANDARD_PILE),
-        What::BlankSearch(relation) => sum_of_search(heap, job, relation, &Blank),
+        What::Search(relation) => sum_of_search(heap, job, relation, true),
+        What::BareSearch(relation) => sum_of_search(heap, job, relation, false),
         What::Fit => sum_of_fits(heap, job),
         What::PartLine => sum_of_part_lines(heap, job),
         What::DropLine => sum_of_drop_lines(heap, job),

@@ -15,7 +15,7 @@ what came out. All inputs are drawn, the same in each run.
   lists                                           the lists of a table; PARTS tables in turn
   agreeing near unrelated                         the wiring of a card and a part that agrees, nearly agrees or weighs
                                                   the same, with the standard pile; PARTS pairs in turn
-  blank-agreeing blank-near blank-unrelated       the same with the blank pile
+  bare-agreeing bare-near bare-unrelated          the same by the search alone, without signatures
   fit                                             a card is fitted to a shelf of PARTS slots, all in use
   part drop card                                  a line of this form is answered by such a shelf
 
@@ -36,9 +36,9 @@ fn what_of(word: &str) -> Option<What>
         "agreeing" => Some(What::Search(Relation::Agreeing)),
         "near" => Some(What::Search(Relation::NearMiss)),
         "unrelated" => Some(What::Search(Relation::Unrelated)),
-        "blank-agreeing" => Some(What::BlankSearch(Relation::Agreeing)),
-        "blank-near" => Some(What::BlankSearch(Relation::NearMiss)),
-        "blank-unrelated" => Some(What::BlankSearch(Relation::Unrelated)),
+        "bare-agreeing" => Some(What::BareSearch(Relation::Agreeing)),
+        "bare-near" => Some(What::BareSearch(Relation::NearMiss)),
+        "bare-unrelated" => Some(What::BareSearch(Relation::Unrelated)),
         "fit" => Some(What::Fit),
         "part" => Some(What::PartLine),
         "drop" => Some(What::DropLine),
