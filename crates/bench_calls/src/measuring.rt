@@ -6,6 +6,7 @@ use crate::stock::Stock;
 use draws::Random;
 use fitting::wiring_by;
 use inventory::Shelf;
+use lists::Lists;
 use matching::{Strikes, first_wiring};
 use refusals::Refusal;
 use rows::OnOff;
@@ -39,7 +40,8 @@ fn sum_of_lists(heap: Global, job: &Job) -> Result<u64, Failure> {
     let mut sum = 0;
     for (t, card) in cards.as_slice().iter().cycle().take(job.times).enumerate() {
         let table = Table::new(job.inputs, card.as_slice())?;
-        let lists = STANDARD_PILE.lists(&table);
+        let mut lists = Lists::NONE;
+        STANDARD_PILE.fill(&table, &mut lists);
         sum = summed(sum, u64::from(lists.answers[t % job.inputs][t % 12]));
     }
     Ok(sum)

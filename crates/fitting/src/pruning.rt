@@ -7,7 +7,7 @@ ghost use Rattle.signatures.specs.Law.{list_of};
 ghost use Rattle.tables.specs.Agreement.{Agree};
 ghost use Rattle.fitting.specs.Pruning.{all_lists, tells_apart};
 
-use lists::{spread, strikes, struck_count};
+use lists::{Lists, spread, strikes, struck_count};
 use matching::Strikes;
 use rows::RowKind;
 use signatures::Signature;
@@ -22,14 +22,22 @@ pub fn strikes_by<R: RowKind, P: Signature<R>>(
     ensures exact { (i p : ℕ) → struck result.struck i p ≡ tells_apart card.now.inputs part.now.inputs (list_of (P.Signature.count pile.now) (P.Signature.value pile.now) card.now.inputs card.now.rows.now) (list_of (P.Signature.count pile.now) (P.Signature.value pile.now) part.now.inputs part.now.rows.now) i p }
     ensures spares { (w : ℕ → ℕ) → Agree R.RowKind.same card.now.inputs w card.now.rows.now part.now.rows.now → Spared result.struck card.now.inputs w }
 {
-    strikes(&pile.lists(card), &pile.lists(part))
+    let mut card_lists = Lists::NONE;
+    let mut part_lists = Lists::NONE;
+    pile.fill(card, &mut card_lists);
+    pile.fill(part, &mut part_lists);
+    strikes(&card_lists, &part_lists)
 }
 
 // How many pairs a pile tells apart.
 pub fn struck_by<R: RowKind, P: Signature<R>>(pile: &P, card: &Table<R>, part: &Table<R>) -> usize
     ensures { result ≡ struck_pairs (all_lists (P.Signature.count pile.now) (P.Signature.value pile.now) card.now.inputs card.now.rows.now) (all_lists (P.Signature.count pile.now) (P.Signature.value pile.now) part.now.inputs part.now.rows.now) }
 {
-    struck_count(&pile.lists(card), &pile.lists(part))
+    let mut card_lists = Lists::NONE;
+    let mut part_lists = Lists::NONE;
+    pile.fill(card, &mut card_lists);
+    pile.fill(part, &mut part_lists);
+    struck_count(&card_lists, &part_lists)
 }
 
 // In how many ways a pile leaves the pins open: the agreeing wirings number at most so many.
@@ -37,5 +45,9 @@ pub fn spread_by<R: RowKind, P: Signature<R>>(pile: &P, card: &Table<R>, part: &
     ensures formula { result ≡ spread (all_lists (P.Signature.count pile.now) (P.Signature.value pile.now) card.now.inputs card.now.rows.now) (all_lists (P.Signature.count pile.now) (P.Signature.value pile.now) part.now.inputs part.now.rows.now) }
     ensures bound { AtMost (λ w. Agree R.RowKind.same card.now.inputs w card.now.rows.now part.now.rows.now) card.now.inputs result }
 {
-    spread(&pile.lists(card), &pile.lists(part))
+    let mut card_lists = Lists::NONE;
+    let mut part_lists = Lists::NONE;
+    pile.fill(card, &mut card_lists);
+    pile.fill(part, &mut part_lists);
+    spread(&card_lists, &part_lists)
 }

@@ -13,3 +13,12 @@ pub struct Lists {
     ghost short: { places ≤ 64 },
     ghost whole: { length answers ≡ 10 },
 }
+
+impl Lists {
+    // Of no inputs, at no places.
+    pub const NONE: Lists = Lists {
+        inputs: 0,
+        places: 0,
+        answers: [[0; 64]; 10],
+    };
+}

@@ -1,12 +1,12 @@
 -- The steps of the search: a pin more, a pin that no usable wiring goes on with, and the end.
-use Rattle.std.proofs.Common.{◌≡◌, ℕ, suc, ◌+◌, ◌-◌, ◌^◌, ◌<◌, ◌≤◌, Bool, true, false, List, [], ◌∷◌, length, get_or, Some, None, Option, sym, ap, ◌∙◌, subst, inl, inr, refl, ⊎_elim, add-one, arith, pow_pos, pow_mono}
+use Rattle.std.proofs.Common.{◌≡◌, ℕ, suc, ◌+◌, ◌-◌, ◌^◌, ◌<◌, ◌≤◌, Bool, true, false, List, [], ◌∷◌, length, get_or, set, Some, None, Option, sym, ap, ◌∙◌, subst, inl, inr, refl, ⊎_elim, add-one, arith, pow_pos, pow_mono}
 use borrow.Author.Count.{below_more}
-use Rattle.std.specs.Bool.{then_some}
+use Rattle.std.proofs.lemmas.List.{get_or-set_same, get_or-set_other}
 use Rattle.std.proofs.lemmas.Bool.{cases_eq, cases_lt, both_ways}
 use Rattle.std.proofs.Math.Nat.{two-pow-succ}
 use Rattle.tables.specs.Wirings.{pin, Placed, Wires, Alike}
 use Rattle.tables.specs.Carry.{carry}
-use Rattle.tables.specs.Making.{Extended}
+use Rattle.tables.specs.Making.{Takes, Extended}
 use Rattle.tables.specs.declared.partial_wiring.PartialWiring.{PartialWiring}
 use Rattle.tables.specs.declared.table.Table.{Table}
 use Rattle.tables.specs.declared.wiring.Wiring.{Wiring}
@@ -14,7 +14,7 @@ use Rattle.tables.proofs.Carries.{carry_ext, carry_low, carry_high, carry_up, ca
 use Rattle.matching.specs.declared.search.Search.{Search}
 use Rattle.matching.specs.Struck.{struck}
 use Rattle.matching.specs.Search.{Usable, Found}
-use Rattle.matching.specs.Begun.{Barred, Begins, Begun, Deciding, Differs, Placing, FirstFrom, SameSearch, Settled, Within}
+use Rattle.matching.specs.Begun.{Barred, Begins, Begun, Differs, Placing, FirstFrom, SameSearch, Settled, Within}
 
 some : {R : Type 0} (xs : List R) → 0 < length xs → R
 some [] lt = absurd (omega arith)
@@ -36,6 +36,26 @@ pub record Grown (begun : PartialWiring) (p : ℕ) (longer : PartialWiring) : Ty
 
 pub grown : (begun : PartialWiring) (p : ℕ) (longer : PartialWiring) → Extended begun p (Some longer) → Grown begun p longer
 grown begun p longer e = record { inputs = e.0; len = e.1; before = e.2; next = e.3 }
+
+-- w's first k pins, and then one that they leave free
+placed_next : {n k p : ℕ} {w u : ℕ → ℕ} → Alike k u w → u k ≡ p → Placed n k w → p < n → ((i : ℕ) → i < k → w i ≡ p → ⊥) → Placed n (suc k) u
+placed_next {n} {k} {p} {w} {u} kept new h lp free = (
+    (λ i li. ⊎_elim (λ l. let a = h.0 i l in let b = kept i l in omega arith) (λ g. let e : i ≡ k = omega arith in let a : u i ≡ u k = ap u e in omega arith) (cases_lt i k)),
+    (λ i j t.
+        let li : i < suc k = t.0 in
+        let lj : j < suc k = t.1 in
+        let same : u i ≡ u j = t.2 in
+        ⊎_elim
+        (λ l. ⊎_elim
+        (λ m. h.1 i j (l, m, sym (kept i l) ∙ same ∙ kept j m))
+        (λ g. let e : j ≡ k = omega arith in absurd (free i l (sym (kept i l) ∙ same ∙ ap u e ∙ new)))
+        (cases_lt j k))
+        (λ g. let e : i ≡ k = omega arith in ⊎_elim
+        (λ m. absurd (free j m (sym (kept j m) ∙ sym same ∙ ap u e ∙ new)))
+        (λ f. omega arith)
+        (cases_lt j k))
+        (cases_lt i k)),
+)
 
 module _ {R : Type 0} (same : R → R → Bool) where
   -- what is decided of a row that a wiring carries so decides of the wiring
@@ -100,28 +120,31 @@ module _ {R : Type 0} {same : R → R → Bool} {search : Search R} {begun : Par
   part_whole : length part.rows.now ≡ 2 ^ begun.inputs
   part_whole = part.whole ∙ ap (λ n. 2 ^ n) (sym (h.card_inputs ∙ search.same_inputs))
 
-  -- the rows that the next pin decides
+  -- the rows that the next pin decides are carried so much further than those without the bit
+  carry_next : {p : ℕ} (u : ℕ → ℕ) → Alike k u w → u k ≡ p → (r : ℕ) → r < 2 ^ k → get_or carried r 0 + 2 ^ p ≡ carry (suc k) u (2 ^ k + r)
+  carry_next {p} u kept new r lt = let a = carry_high k u r lt in let b = carry_ext k u w r kept in let m = h.carries r lt in let y : 2 ^ u k ≡ 2 ^ p = ap (λ z. 2 ^ z) new in omega arith
+
+  -- they lie in the part
+  pub in_part : (p : ℕ) → Takes begun p → (r : ℕ) → r < 2 ^ k → get_or carried r 0 + 2 ^ p < length part.rows.now
+  in_part p takes r lt =
+      let u = pin (set begun.pins k p) in
+      let few = begun.few in
+      let whole = begun.whole in
+      let kept : Alike k u w = λ i l. get_or-set_other begun.pins k i p 0 (λ e. omega arith) in
+      let new : u k ≡ p = get_or-set_same begun.pins k p 0 (omega (arith, takes.0)) in
+      let c = carry_lt begun.inputs (suc k) u (2 ^ k + r) (placed_next kept new (begun.into, begun.apart) takes.1 takes.2) in
+      omega (arith, carry_next u kept new r lt, part_whole)
+
   module _ {p : ℕ} {longer : PartialWiring} (g : Grown begun p longer) where
     abbrev u : ℕ → ℕ
     u = pin longer.pins
-
-    -- they are carried so much further than those without the bit
-    carry_next : (r : ℕ) → r < 2 ^ k → get_or carried r 0 + 2 ^ p ≡ carry (suc k) u (2 ^ k + r)
-    carry_next r lt = let a = carry_high k u r lt in let b = carry_ext k u w r g.before in let m = h.carries r lt in let y : 2 ^ u k ≡ 2 ^ p = ap (λ z. 2 ^ z) g.next in omega arith
-
-    placed : Placed begun.inputs (suc k) u
-    placed = ((λ i li. let l = longer.into i (omega (arith, g.len)) in omega (arith, g.inputs)), (λ i j t. let a = t.0 in let b = t.1 in longer.apart i j (omega (arith, g.len), omega (arith, g.len), t.2)))
-
-    -- they lie in the part
-    pub in_part : (r : ℕ) → r < 2 ^ k → get_or carried r 0 + 2 ^ p < length part.rows.now
-    in_part r lt = let c = carry_lt begun.inputs (suc k) u (2 ^ k + r) placed in omega (arith, carry_next r lt, part_whole)
 
     begun_more : (after : Search R) → SameSearch (2 ^ k) search after → struck search.strikes.now.struck k p ≡ false
         → Settled same card.rows.now part.rows.now (2 ^ k) (2 ^ k) (2 ^ p) carried after.carried → Begun same after longer
     begun_more after on free s =
         let up : (r : ℕ) → carry longer.len u r ≡ carry (suc k) u r = λ r. ap (λ m. carry m u r) (g.len ∙ add-one k) in
         let low : (r : ℕ) → r < 2 ^ k → carry k w r ≡ carry longer.len u r = λ r lt. sym (carry_ext k u w r g.before) ∙ sym (carry_low k u r lt) ∙ sym (up r) in
-        let high : (r : ℕ) → r < 2 ^ k → get_or carried r 0 + 2 ^ p ≡ carry longer.len u (2 ^ k + r) = λ r lt. carry_next r lt ∙ sym (up (2 ^ k + r)) in
+        let high : (r : ℕ) → r < 2 ^ k → get_or carried r 0 + 2 ^ p ≡ carry longer.len u (2 ^ k + r) = λ r lt. carry_next u g.before g.next r lt ∙ sym (up (2 ^ k + r)) in
         let two : 2 ^ longer.len ≡ 2 ^ k + 2 ^ k = ap (λ m. 2 ^ m) (g.len ∙ add-one k) ∙ two-pow-succ k in
         record {
           card_inputs = g.inputs ∙ h.card_inputs ∙ ap (λ t. t.inputs) (sym on.card);
@@ -139,7 +162,7 @@ module _ {R : Type 0} {same : R → R → Bool} {search : Search R} {begun : Par
         }
 
   -- a row that is not the same shuts out every usable wiring that goes on so
-  differs_barred : (p : ℕ) → k < begun.inputs → Differs same card.rows.now part.rows.now (2 ^ k) (2 ^ p) carried → Barred same search begun p
+  pub differs_barred : (p : ℕ) → k < begun.inputs → Differs same card.rows.now part.rows.now (2 ^ k) (2 ^ p) carried → Barred same search begun p
   differs_barred p lk f v usable a new =
       let n = card.inputs in
       let r = f.0 in
@@ -153,11 +176,11 @@ module _ {R : Type 0} {same : R → R → Bool} {search : Search R} {begun : Par
       let y : 2 ^ v k ≡ 2 ^ p = ap (λ z. 2 ^ z) new in
       differs_none same card part search.strikes.now.struck (2 ^ k + r) (get_or carried r 0 + 2 ^ p) v (omega (arith, f.1)) (omega arith) f.2 usable
 
-  -- the rows of the next pin are decided
-  pub decided : (p : ℕ) (longer : PartialWiring) → Extended begun p (Some longer) → k < begun.inputs → struck search.strikes.now.struck k p ≡ false → (after : Search R) → SameSearch (2 ^ k) search after
-      → (alike : Bool) → Deciding same search (2 ^ k) (2 ^ p) alike after.carried → Placing same search begun p (then_some alike longer) after
-  decided p longer e lk free after on true s = (e, begun_more (grown begun p longer e) after on free s)
-  decided p longer e lk free after on false f = differs_barred p lk f
+  -- the rows of the next pin are the same
+  pub placed : (p : ℕ) → Takes begun p → struck search.strikes.now.struck k p ≡ false → (after : Search R) → SameSearch (2 ^ k) search after
+      → Settled same card.rows.now part.rows.now (2 ^ k) (2 ^ k) (2 ^ p) carried after.carried → (r : Option PartialWiring) → Extended begun p r → Placing same search begun p r after
+  placed p takes free after on settled (Some longer) e = (e, begun_more (grown begun p longer e) after on free settled)
+  placed p takes free after on settled None e = absurd (e takes)
 
   -- all inputs have their pins
   pub whole : (x : Wiring) → k ≡ begun.inputs → x.inputs ≡ begun.inputs → x.pins ≡ begun.pins → FirstFrom same search begun x

@@ -40,7 +40,8 @@ impl<'a, R: RowKind> Search<'a, R> {
         true
     }
 
-    // Gives the next input a pin, if the pin is free, the pair is not struck and no row that this decides differs.
+    // Gives the next input a pin, if it can have it, the pair is not struck and no row that this decides differs. The
+    // rows come first, since most pins end there: the longer wiring is made only where it goes on.
     fn place(&mut self, begun: &PartialWiring, pin: u8) -> Option<PartialWiring>
         requires open { begun.now.len < begun.now.inputs }
         requires begun { Begun R.RowKind.same self.old begun.now }
@@ -49,11 +50,10 @@ impl<'a, R: RowKind> Search<'a, R> {
     {
         let input = begun.len();
         let at = pin as usize;
-        if self.strikes.is_struck(input, at) {
+        if self.strikes.is_struck(input, at) || !begun.takes(pin) || !self.settle(input, at) {
             return None;
         }
-        let longer = begun.with(pin)?;
-        self.settle(input, at).then_some(longer)
+        begun.with(pin)
     }
 
     // The first usable wiring among those that begin so, pins rising.

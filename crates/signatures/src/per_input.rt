@@ -52,7 +52,8 @@ pub(crate) fn write_each<R: RowKind, S: PerInput<R>>(
 )
     requires from { from ≤ 64 }
     requires free { AllFree table.now.inputs from answers.old }
-    ensures { Written table.now.inputs from (S.PerInput.says signature.now table.now.inputs table.now.rows.now) answers.old answers.new }
+    ensures written { Written table.now.inputs from (S.PerInput.says signature.now table.now.inputs table.now.rows.now) answers.old answers.new }
+    ensures whole { length answers.new ≡ 10 }
 {
     for (input, list) in answers[..table.inputs].iter_mut().enumerate() {
         append(signature, table, input, from, list);

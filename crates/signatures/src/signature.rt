@@ -1,4 +1,4 @@
-ghost use Rattle.std.specs.Prelude.{◌≡◌, ℕ, ◌≤◌, List};
+ghost use Rattle.std.specs.Prelude.{◌≡◌, ℕ, ◌≤◌, List, length};
 ghost use Rattle.signatures.specs.Law.{Lawful, given, asked, GivesLists};
 ghost use Rattle.signatures.specs.Writing.{AllFree, Written};
 
@@ -24,20 +24,18 @@ pub trait Signature<R: RowKind> {
     fn write(&self, table: &Table<R>, from: usize, answers: &mut [[u32; 64]; 10])
         requires from { from ≤ 64 }
         requires free { AllFree table.now.inputs from answers.old }
-        ensures { Written table.now.inputs from (given (count self.now) (value self.now) table.now.inputs table.now.rows.now) answers.old answers.new };
+        ensures written { Written table.now.inputs from (given (count self.now) (value self.now) table.now.inputs table.now.rows.now) answers.old answers.new }
+        ensures whole { length answers.new ≡ 10 };
 
-    // The lists of all inputs.
-    fn lists(&self, table: &Table<R>) -> Lists
-        ensures gives { GivesLists (count self.now) (value self.now) table.now.inputs table.now.rows.now result }
+    // Makes these the lists of all inputs, whatever they were. They are lent, since they are long: nothing is copied.
+    fn fill(&self, table: &Table<R>, lists: &mut Lists)
+        ensures gives { GivesLists (count self.now) (value self.now) table.now.inputs table.now.rows.now lists.new }
         ensures lawful { Lawful (count self.now) (value self.now) R.RowKind.same }
     {
-        let mut answers = [[0; 64]; 10];
-        self.write(table, 0, &mut answers);
-        Lists {
-            inputs: table.inputs,
-            places: self.places(),
-            answers,
-        }
+        *lists = Lists::NONE;
+        self.write(table, 0, &mut lists.answers);
+        lists.inputs = table.inputs;
+        lists.places = self.places();
     }
 
     // One answer, and 0 where the rows are no table of so many inputs, or there is no such input or place.
@@ -50,6 +48,8 @@ pub trait Signature<R: RowKind> {
         if input >= inputs || place >= self.places() {
             return 0;
         }
-        self.lists(&table).answers[input][place]
+        let mut lists = Lists::NONE;
+        self.fill(&table, &mut lists);
+        lists.answers[input][place]
     }
 }

@@ -4,7 +4,6 @@ pub mod Onto
 pub mod Reindex
 pub mod Carries
 pub mod Published
-pub mod Growing
 pub mod Reading
 pub mod Shifts
 pub mod Alikes

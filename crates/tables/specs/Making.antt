@@ -33,13 +33,16 @@ WiringMade n pins (Err reason) =
 abbrev pub IsEmpty : ℕ → PartialWiring → Type 0
 IsEmpty n w = (w.inputs ≡ n) × (w.len ≡ 0)
 
--- a pin for the next input; none where all inputs have theirs, the pin is n or more, or an input has it
+-- there is a next input, and it can have pin p: one below n that no input has
+abbrev pub Takes : PartialWiring → ℕ → Type 0
+Takes w p = (w.len < w.inputs) × (p < w.inputs) × ((i : ℕ) → i < w.len → pin w.pins i ≢ p)
+
+-- with a pin for the next input, or none where that cannot have it
 abbrev pub Extended : PartialWiring → ℕ → Option PartialWiring → Type 0
 Extended w p (Some longer) =
     (longer.inputs ≡ w.inputs) × (longer.len ≡ w.len + 1) × Alike w.len (pin longer.pins) (pin w.pins)
     × (pin longer.pins w.len ≡ p)
-Extended w p None =
-    (w.len < w.inputs) × (p < w.inputs) × ((i : ℕ) → i < w.len → pin w.pins i ≢ p) → ⊥
+Extended w p None = Takes w p → ⊥
 
 -- the wiring with these pins, once there is one for each input
 abbrev pub Finished : PartialWiring → Option Wiring → Type 0

@@ -50,7 +50,8 @@ fn propose<R: RowKind, P: Signature<R>>(
     if total_weight(part) != weight {
         return None;
     }
-    let part_lists = pile.lists(part);
+    let mut part_lists = Lists::NONE;
+    pile.fill(part, &mut part_lists);
     let apart = strikes(lists, &part_lists);
     let wiring = first_wiring(card, part, &apart)?;
     let struck = struck_count(lists, &part_lists);
@@ -73,7 +74,8 @@ impl Shelf {
         ensures { Best R.RowKind.same (list_by P.Signature.count P.Signature.value) (Held self.now.slots memory.now) card.now.inputs card.now.rows.now pile.now result }
     {
         let weight = total_weight(card);
-        let lists = pile.lists(card);
+        let mut lists = Lists::NONE;
+        pile.fill(card, &mut lists);
         let mut best = None;
         for (k, slot) in self.slots.iter().enumerate() {
             if let Some(label) = worth(*slot, card.inputs, &best) {

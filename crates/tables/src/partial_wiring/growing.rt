@@ -1,5 +1,6 @@
+ghost use Rattle.std.specs.Prelude.{Decides};
 ghost use Rattle.refusals.specs.Due.{Outcome};
-ghost use Rattle.tables.specs.Making.{wiring_due, IsEmpty, Extended, Finished};
+ghost use Rattle.tables.specs.Making.{wiring_due, IsEmpty, Takes, Extended, Finished};
 
 use crate::partial_wiring::PartialWiring;
 use crate::wiring::Wiring;
@@ -21,17 +22,24 @@ impl PartialWiring {
         })
     }
 
+    // Whether the next input can have this pin.
+    pub fn takes(&self, pin: u8) -> bool
+        ensures { Decides result (Takes self.now pin) }
+    {
+        let at = pin as usize;
+        self.len < self.inputs && at < self.inputs && !self.used[at]
+    }
+
     // With a pin for the next input, unless that makes no part of a wiring.
     pub fn with(&self, pin: u8) -> Option<PartialWiring>
         ensures { Extended self.now pin result }
     {
-        let at = pin as usize;
-        if self.len == self.inputs || at >= self.inputs || self.used[at] {
+        if !self.takes(pin) {
             return None;
         }
         let mut longer = *self;
         longer.pins[self.len] = pin;
-        longer.used[at] = true;
+        longer.used[pin as usize] = true;
         longer.len += 1;
         Some(longer)
     }

@@ -8,4 +8,4 @@ returns g c =
     let card = c.args.card.now in
     let part = c.args.part.now in
     c.struck_count.ensures
-    ∙ from_lists (g.P.Signature.count c.args.pile.now) (g.P.Signature.value c.args.pile.now) g.R.RowKind.same c.lists.ensures.lawful card.inputs part.inputs card.rows.now part.rows.now c.lists.result c.lists-2.result c.lists.ensures.gives c.lists-2.ensures.gives struck_pairs
+    ∙ from_lists (g.P.Signature.count c.args.pile.now) (g.P.Signature.value c.args.pile.now) g.R.RowKind.same c.fill.ensures.lawful card.inputs part.inputs card.rows.now part.rows.now c.fill.new.lists c.fill-2.new.lists c.fill.ensures.gives c.fill-2.ensures.gives struck_pairs

@@ -38,8 +38,8 @@ loop-input-preserved g c =
       left = λ i le li. get_or-set_other items k i new [] (λ e. absurd (omega (arith, le, e))) ∙ c.loop-input.invariant.left i (omega (arith, le)) li;
     }
 
-pub returns : goal.returns
-returns g c = λ i li.
+pub returns-clause-written : goal.returns-clause-written
+returns-clause-written g c = λ i li.
     let items = c.loop-input.list-items in
     let long = length-take-le {A = List ℕ} c.args.table.now.inputs c.args.answers.now (omega arith) in
     subst (λ list. Appended c.args.from (g.S.PerInput.says c.args.signature.now c.args.table.now.inputs c.args.table.now.rows.now i) (get_or c.args.answers.now i []) list)

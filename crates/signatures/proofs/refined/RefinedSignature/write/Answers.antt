@@ -6,15 +6,15 @@ use Rattle.signatures.proofs.refined.RefinedSignature.write.Goals as goal
 pub write-requires-clause-free : goal.write-requires-clause-free
 write-requires-clause-free g c = blank_block c.args.table.now.inputs c.args.table.now.few
 
-pub returns : goal.returns
-returns g c = λ i li.
+pub returns-clause-written : goal.returns-clause-written
+returns-clause-written g c = λ i li.
     let below = c.args.self.now.0 in
     let table = c.args.table.now in
-    let written = c.write_each.ensures i li in
+    let written = c.write_each.ensures.written i li in
     record {
       len = written.len;
       before = written.before;
       after = λ p le lt.
           written.after p le lt
-          ∙ refined_from_written g.R.RowKind.weight (g.S.Signature.count below) (g.S.Signature.value below) table.inputs table.rows.now c.places.result c.places.ensures.count c.places.ensures.few (replicate 10 (replicate 64 0)) c.write.new.answers c.write.ensures i (p - c.args.from);
+          ∙ refined_from_written g.R.RowKind.weight (g.S.Signature.count below) (g.S.Signature.value below) table.inputs table.rows.now c.places.result c.places.ensures.count c.places.ensures.few (replicate 10 (replicate 64 0)) c.write.new.answers c.write.ensures.written i (p - c.args.from);
     }
