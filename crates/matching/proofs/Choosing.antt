@@ -1,5 +1,5 @@
 -- The steps of the search: a pin more, a pin that no usable wiring goes on with, and the end.
-use Rattle.std.proofs.Common.{◌≡◌, ℕ, suc, ◌+◌, ◌-◌, ◌^◌, ◌<◌, ◌≤◌, Bool, true, false, List, [], ◌∷◌, length, get_or, set, Some, None, Option, sym, ap, ◌∙◌, subst, inl, inr, refl, ⊎_elim, add-one, arith, pow_pos, pow_mono}
+use Rattle.std.proofs.Common.{rules, ◌≡◌, ℕ, suc, ◌+◌, ◌-◌, ◌^◌, ◌<◌, ◌≤◌, Bool, true, false, List, [], ◌∷◌, length, get_or, set, Some, None, Option, sym, ap, ◌∙◌, subst, inl, inr, refl, ⊎_elim, add-one, arith, pow_pos, pow_mono}
 use borrow.Author.Count.{below_more}
 use Rattle.std.proofs.lemmas.List.{get_or-set_same, get_or-set_other}
 use Rattle.std.proofs.lemmas.Bool.{cases_eq, cases_lt, both_ways}
@@ -39,23 +39,7 @@ grown begun p longer e = record { inputs = e.0; len = e.1; before = e.2; next = 
 
 -- w's first k pins, and then one that they leave free
 placed_next : {n k p : ℕ} {w u : ℕ → ℕ} → Alike k u w → u k ≡ p → Placed n k w → p < n → ((i : ℕ) → i < k → w i ≡ p → ⊥) → Placed n (suc k) u
-placed_next {n} {k} {p} {w} {u} kept new h lp free = (
-    (λ i li. ⊎_elim (λ l. let a = h.0 i l in let b = kept i l in omega arith) (λ g. let e : i ≡ k = omega arith in let a : u i ≡ u k = ap u e in omega arith) (cases_lt i k)),
-    (λ i j t.
-        let li : i < suc k = t.0 in
-        let lj : j < suc k = t.1 in
-        let same : u i ≡ u j = t.2 in
-        ⊎_elim
-        (λ l. ⊎_elim
-        (λ m. h.1 i j (l, m, sym (kept i l) ∙ same ∙ kept j m))
-        (λ g. let e : j ≡ k = omega arith in absurd (free i l (sym (kept i l) ∙ same ∙ ap u e ∙ new)))
-        (cases_lt j k))
-        (λ g. let e : i ≡ k = omega arith in ⊎_elim
-        (λ m. absurd (free j m (sym (kept j m) ∙ sym same ∙ ap u e ∙ new)))
-        (λ f. omega arith)
-        (cases_lt j k))
-        (cases_lt i k)),
-)
+placed_next kept new h lp free = (search rules, search rules)
 
 module _ {R : Type 0} (same : R → R → Bool) where
   -- what is decided of a row that a wiring carries so decides of the wiring
