@@ -5,7 +5,7 @@ ghost use Rattle.bench_calls.specs.declared.job.Job.{Job};
 
 use crate::drawing::Relation;
 use crate::job::{Job, What};
-use arguments::asks_for_help;
+use programs::asks_for_help;
 
 pub const USAGE: &str = "usage: bench_calls WHAT N PARTS TIMES
 

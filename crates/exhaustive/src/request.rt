@@ -1,7 +1,7 @@
 ghost use Rattle.std.specs.Prelude.{ℕ, map, string_bytes, MatchOption};
 ghost use Rattle.exhaustive.specs.Requests.{IsTimes, Asks};
 
-use arguments::asks_for_help;
+use programs::asks_for_help;
 
 pub const USAGE: &str = "usage: exhaustive [TIMES]
 

@@ -1,7 +1,7 @@
 ghost use Rattle.std.specs.Prelude.{map, string_bytes};
 ghost use Rattle.rebuild.specs.Requests.{Asks};
 
-use arguments::asks_for_help;
+use programs::asks_for_help;
 
 pub const USAGE: &str = "usage: rebuild [CARD READINGS N=ROWS..]
 

@@ -7,6 +7,7 @@ mod typed;
 
 use comparison::Comparison;
 use failure::Failure;
+use programs::ended;
 use request::{Request, USAGE};
 use signatures::STANDARD_PILE;
 use std::process::ExitCode;
@@ -48,9 +49,5 @@ fn run(rt: &HostRuntime) -> Result<(), Failure> {
 }
 
 fn main(rt: HostRuntime) -> ExitCode {
-    let Err(failure) = run(&rt) else {
-        return ExitCode::SUCCESS;
-    };
-    let _ = eprintln!(rt; "{failure}");
-    ExitCode::FAILURE
+    ended(&rt, run(&rt))
 }

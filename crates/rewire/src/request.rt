@@ -1,7 +1,7 @@
 ghost use Rattle.std.specs.Prelude.{map, string_bytes};
 ghost use Rattle.rewire.specs.Requests.{Asks};
 
-use arguments::asks_for_help;
+use programs::asks_for_help;
 
 pub const USAGE: &str = "usage: rewire CARD PART
 

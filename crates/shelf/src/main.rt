@@ -5,6 +5,7 @@ mod request;
 
 use failure::Failure;
 use line_service::serve;
+use programs::ended;
 use request::{Request, USAGE};
 use rows::OnOff;
 use signatures::STANDARD_PILE;
@@ -35,9 +36,5 @@ fn run(rt: &HostRuntime) -> Result<(), Failure> {
 }
 
 fn main(rt: HostRuntime) -> ExitCode {
-    let Err(failure) = run(&rt) else {
-        return ExitCode::SUCCESS;
-    };
-    let _ = eprintln!(rt; "{failure}");
-    ExitCode::FAILURE
+    ended(&rt, run(&rt))
 }

@@ -1,6 +1,6 @@
 use Rattle.std.proofs.Common.{rules, ◌≡◌, List, [], ◌∷◌, map, length, get_or, string_bytes, IsTrue, sym, ap, ◌∙◌, arith}
 use Rattle.std.specs.Prelude.{codes}
-use Rattle.arguments.proofs.help.asks_for_help.Goals as goal
+use Rattle.programs.proofs.help.asks_for_help.Goals as goal
 
 -- what a function makes of the only item of a list
 map_only : {A B : Type 0} (f : A → B) (xs : List A) (x : A) → length xs ≡ 1 → x ≡ get_or xs 0 x → map f xs ≡ f x ∷ []
