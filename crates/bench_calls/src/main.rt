@@ -11,6 +11,7 @@ mod stock;
 use failure::Failure;
 use job::Job;
 use measuring::sum_of;
+use programs::ended;
 use request::{Request, USAGE};
 use std::env;
 use std::process::ExitCode;
@@ -32,9 +33,5 @@ fn run(rt: &HostRuntime) -> Result<(), Failure> {
 }
 
 fn main(rt: HostRuntime) -> ExitCode {
-    let Err(failure) = run(&rt) else {
-        return ExitCode::SUCCESS;
-    };
-    let _ = eprintln!(rt; "{failure}");
-    ExitCode::FAILURE
+    ended(&rt, run(&rt))
 }

@@ -18,6 +18,7 @@ use damage::{Change, changes};
 use draws::Random;
 use failure::Failure;
 use printing::{show_difference, show_head, show_row};
+use programs::ended;
 use request::{Reach, Request, USAGE};
 use std::env;
 use std::process::ExitCode;
@@ -74,9 +75,5 @@ fn run(rt: &HostRuntime) -> Result<(), Failure> {
 }
 
 fn main(rt: HostRuntime) -> ExitCode {
-    let Err(failure) = run(&rt) else {
-        return ExitCode::SUCCESS;
-    };
-    let _ = eprintln!(rt; "{failure}");
-    ExitCode::FAILURE
+    ended(&rt, run(&rt))
 }

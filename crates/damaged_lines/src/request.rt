@@ -1,6 +1,8 @@
 ghost use Rattle.std.specs.Prelude.{◌≡◌, map, string_bytes};
 ghost use Rattle.damaged_lines.specs.Requests.{Asks, draws};
 
+use programs::{asks_for_help, is_only};
+
 pub const USAGE: &str = "usage: damaged_lines [all]
 
 Feeds damaged lines to a shelf, and compares each answer with that of a reader of its own.
@@ -41,8 +43,8 @@ impl Request {
     {
         match args {
             [] => Some(Request::Feed(Reach::Brief)),
-            [word] if word.as_str() == "all" => Some(Request::Feed(Reach::All)),
-            [word] if word.as_str() == "--help" => Some(Request::Help),
+            _ if is_only(args, "all") => Some(Request::Feed(Reach::All)),
+            _ if asks_for_help(args) => Some(Request::Help),
             _ => None,
         }
     }

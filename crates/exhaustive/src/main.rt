@@ -25,6 +25,7 @@ use family::{compare_drawn, compare_pairs, compare_shelves, every_table};
 use kind::Kind;
 use level::Level;
 use printing::{show_head, show_row};
+use programs::ended;
 use request::{Request, USAGE};
 use rows::{Drive, Indistinct, OnOff};
 use small_table::SmallTable;
@@ -182,9 +183,5 @@ fn run(rt: &HostRuntime) -> Result<(), Failure> {
 }
 
 fn main(rt: HostRuntime) -> ExitCode {
-    let Err(failure) = run(&rt) else {
-        return ExitCode::SUCCESS;
-    };
-    let _ = eprintln!(rt; "{failure}");
-    ExitCode::FAILURE
+    ended(&rt, run(&rt))
 }

@@ -1,7 +1,7 @@
 #![tactic(auto)]
 
 mod ending;
-mod help;
+mod words;
 
 pub use ending::ended;
-pub use help::asks_for_help;
+pub use words::{asks_for_help, is_only};

@@ -18,6 +18,7 @@ use examples::{repair_of_drives, repair_of_on_off};
 use failure::{Failure, Side};
 use job::Job;
 use printing::show_repair;
+use programs::ended;
 use request::{Request, USAGE};
 use sizing::{sized, stocked};
 use std::env;
@@ -64,9 +65,5 @@ fn run(rt: &HostRuntime) -> Result<(), Failure> {
 }
 
 fn main(rt: HostRuntime) -> ExitCode {
-    let Err(failure) = run(&rt) else {
-        return ExitCode::SUCCESS;
-    };
-    let _ = eprintln!(rt; "{failure}");
-    ExitCode::FAILURE
+    ended(&rt, run(&rt))
 }
