@@ -1,4 +1,6 @@
 ghost use Rattle.std.specs.Prelude.{◌≡◌, ◌≢◌, Contains, All, IfSome, IfNone, nat_le, vec_len};
+ghost use Rattle.ledger.specs.Ledger.{stands};
+ghost use Rattle.damaged_lines.specs.Stocks.{parts_of};
 
 use inventory::Shelf;
 use refusals::Refusal;
@@ -26,6 +28,12 @@ impl Stock {
         ensures none { IfNone result (All (λ part. part.number ≢ number) self.now.parts.items) }
     {
         self.parts.iter().find(|part| part.number == number)
+    }
+
+    pub fn stands(&self, number: u32) -> bool
+        ensures { result ≡ stands number (parts_of self.now) }
+    {
+        self.part(number).is_some()
     }
 
     pub fn is_full(&self) -> bool

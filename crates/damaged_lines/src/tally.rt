@@ -29,7 +29,7 @@ impl Tally {
         self.fed = self.fed.saturating_add(1);
         match refusal(answer) {
             Some(number @ 1..=10) => {
-                let refused = &mut self.refused[usize::from(number) - 1];
+                let refused = &mut self.refused[number as usize - 1];
                 *refused = refused.saturating_add(1);
             }
             _ => self.granted = self.granted.saturating_add(1),

@@ -1,0 +1,3 @@
+pub mod Endings
+pub mod Stocks
+pub mod Texts
