@@ -1,3 +1,5 @@
+pub mod Answering
 pub mod Endings
+pub mod Shelves
 pub mod Stocks
 pub mod Texts

@@ -1,5 +1,6 @@
 -- How many lines are fed.
-use Rattle.std.specs.Prelude.{◌≡◌, ℕ, ◌+◌, ◌-◌, ◌*◌, ◌^◌, ◌<◌, min}
+use Rattle.std.specs.Prelude.{◌≡◌, ℕ, ◌+◌, ◌-◌, ◌*◌, ◌^◌, ◌<◌, min, replicate}
+use Rattle.damaged_lines.specs.declared.tally.Tally.{Tally}
 
 -- a count goes no further than 2^64 - 1
 abbrev pub at_most : ℕ → ℕ
@@ -12,3 +13,7 @@ Grows before more after = before + more < 2 ^ 64 → after ≡ before + more
 -- how many damages a line of so many bytes has: 513 at each byte, and 256 bytes after its end
 abbrev pub damages : ℕ → ℕ
 damages length = 513 * length + 256
+
+-- what is counted before any line is fed
+abbrev pub no_lines : Tally
+no_lines = record { fed = 0; granted = 0; refused = replicate 10 0; differences = 0 }

@@ -1,6 +1,8 @@
 pub mod Counts
 pub mod Damages
 pub mod Dues
+pub mod Fixtures
+pub mod Groups
 pub mod Reading
 pub mod Requests
 pub mod Stocks

@@ -1,3 +1,6 @@
+ghost use Rattle.std.specs.Prelude.{◌≡◌, ◌+◌, map, length, vec_len, IfOk, OnOk};
+ghost use Rattle.damaged_lines.specs.Groups.{count, by_reach, counts};
+
 use crate::reader::on_off;
 use crate::request::Reach;
 use crate::stock::{Part, Stock};
@@ -123,7 +126,9 @@ fn known_base(heap: Global, known: &Known) -> Result<Base, AllocError> {
     })
 }
 
-fn add_known(heap: Global, lines: &mut Vec<Base>, known: &[Known]) -> Result<(), AllocError> {
+fn add_known(heap: Global, lines: &mut Vec<Base>, known: &[Known]) -> Result<(), AllocError>
+    ensures { OnOk result (vec_len lines.new ≡ vec_len lines.old + length known.now) }
+{
     for one in known {
         lines.push(known_base(heap, one)?)?;
     }
@@ -135,7 +140,9 @@ fn known_lines(
     reach: Reach,
     known: &[Known],
     more: &[Known],
-) -> Result<Vec<Base>, AllocError> {
+) -> Result<Vec<Base>, AllocError>
+    ensures { IfOk result (λ lines. vec_len lines ≡ by_reach reach (length known.now) (length known.now + length more.now)) }
+{
     let mut lines = Vec::new(heap);
     add_known(heap, &mut lines, known)?;
     if reach == Reach::All {
@@ -207,7 +214,9 @@ fn with_probes(
     title: &'static str,
     stock: Stock,
     lines: Vec<Base>,
-) -> Result<Group, AllocError> {
+) -> Result<Group, AllocError>
+    ensures { IfOk result (λ group. count group ≡ vec_len lines) }
+{
     let mut probes = Vec::new(heap);
     add_known(heap, &mut probes, &PROBES)?;
     Ok(Group {
@@ -219,7 +228,9 @@ fn with_probes(
     })
 }
 
-fn parts(heap: Global, reach: Reach) -> Result<Group, AllocError> {
+fn parts(heap: Global, reach: Reach) -> Result<Group, AllocError>
+    ensures { IfOk result (λ group. count group ≡ by_reach reach 8 12) }
+{
     let mut lines = known_lines(heap, reach, &PART_LINES, &MORE_PART_LINES)?;
     lines.push(long_line(heap, "(part 8 (pins 10) (rows ", ZEROS, ONES, "(ok)\n")?)?;
     lines.push(long_line(heap, "(part 9999 (pins 10) (rows ", 646, ONES, "(no 4)\n")?)?;
@@ -227,30 +238,40 @@ fn parts(heap: Global, reach: Reach) -> Result<Group, AllocError> {
     with_probes(heap, "parts", stock_with_room(heap)?, lines)
 }
 
-fn parts_too_many(heap: Global, reach: Reach) -> Result<Group, AllocError> {
+fn parts_too_many(heap: Global, reach: Reach) -> Result<Group, AllocError>
+    ensures { IfOk result (λ group. count group ≡ by_reach reach 2 4) }
+{
     let lines = known_lines(heap, reach, &FULL_LINES, &MORE_FULL_LINES)?;
     with_probes(heap, "parts, shelf full", full_stock(heap)?, lines)
 }
 
-fn drops(heap: Global, reach: Reach) -> Result<Group, AllocError> {
+fn drops(heap: Global, reach: Reach) -> Result<Group, AllocError>
+    ensures { IfOk result (λ group. count group ≡ by_reach reach 6 9) }
+{
     let lines = known_lines(heap, reach, &DROP_LINES, &MORE_DROP_LINES)?;
     with_probes(heap, "drops", stock_with_room(heap)?, lines)
 }
 
-fn cards(heap: Global, reach: Reach) -> Result<Group, AllocError> {
+fn cards(heap: Global, reach: Reach) -> Result<Group, AllocError>
+    ensures { IfOk result (λ group. count group ≡ by_reach reach 6 9) }
+{
     let mut lines = known_lines(heap, reach, &CARD_LINES, &MORE_CARD_LINES)?;
     let answer = "(fit 1024 (to 0 1 2 3 4 5 6 7 8 9) (struck 80))\n";
     lines.push(long_line(heap, "(card (pins 10) (rows ", ZEROS, ONES, answer)?)?;
     with_probes(heap, "cards", stock_with_room(heap)?, lines)
 }
 
-fn strays(heap: Global, reach: Reach) -> Result<Group, AllocError> {
+fn strays(heap: Global, reach: Reach) -> Result<Group, AllocError>
+    ensures { IfOk result (λ group. count group ≡ by_reach reach 6 10) }
+{
     let lines = known_lines(heap, reach, &STRAY_LINES, &MORE_STRAY_LINES)?;
     with_probes(heap, "no form", stock_with_room(heap)?, lines)
 }
 
 // Lines of each form, and some that are of none.
-pub fn groups(heap: Global, reach: Reach) -> Result<[Group; 5], AllocError> {
+pub fn groups(heap: Global, reach: Reach) -> Result<[Group; 5], AllocError>
+    ensures { IfOk result (λ groups. map count groups ≡ counts reach) }
+{
     Ok([
         parts(heap, reach)?,
         parts_too_many(heap, reach)?,

@@ -1,6 +1,7 @@
-ghost use Rattle.std.specs.Prelude.{◌≡◌, ◌≢◌, Contains, All, IfSome, IfNone, nat_le, vec_len};
+ghost use Rattle.std.specs.Prelude.{◌≡◌, ◌≢◌, Contains, All, IfSome, IfNone, IfOk, IfErr, nat_le, length, vec_len};
 ghost use Rattle.ledger.specs.Ledger.{stands};
-ghost use Rattle.damaged_lines.specs.Stocks.{parts_of};
+ghost use Rattle.refusals.specs.Numbers.{number};
+ghost use Rattle.damaged_lines.specs.Stocks.{parts_of, Stocked, Unstocked};
 
 use inventory::Shelf;
 use refusals::Refusal;
@@ -43,7 +44,10 @@ impl Stock {
     }
 
     // A shelf just opened with these parts entered, and nothing else in its memory.
-    pub fn shelf(&self, memory: &mut [OnOff]) -> Result<Shelf, Refusal> {
+    pub fn shelf(&self, memory: &mut [OnOff]) -> Result<Shelf, Refusal>
+        ensures stocked { IfOk result (λ shelf. Stocked self.now shelf memory.new) }
+        ensures refused { IfErr result (λ refusal. Unstocked self.now (length memory.old) (number refusal)) }
+    {
         memory.fill(OnOff::Off);
         let mut shelf = Shelf::open(usize::from(self.slots))?;
         for part in self.parts.iter() {

@@ -1,5 +1,6 @@
-ghost use Rattle.std.specs.Prelude.{◌≡◌, ◌+◌, ◌<◌, length, vec_len, OnOk};
-ghost use Rattle.damaged_lines.specs.Counts.{Grows, damages};
+ghost use Rattle.std.specs.Prelude.{◌≡◌, ◌+◌, ◌*◌, ◌<◌, [], length, vec_len, vec_items, IfOk, IfErr, OnOk};
+ghost use Rattle.damaged_lines.specs.Counts.{Grows, damages, no_lines};
+ghost use Rattle.damaged_lines.specs.Fixtures.{IsFixture, NotMade};
 
 use crate::base::{Base, Group};
 use crate::damage::{Change, append, damage};
@@ -49,7 +50,11 @@ pub struct Trial<'a> {
 }
 
 impl<'a> Trial<'a> {
-    pub fn of(heap: Global, group: &'a Group) -> Result<Trial<'a>, Failure> {
+    pub fn of(heap: Global, group: &'a Group) -> Result<Trial<'a>, Failure>
+        ensures stocked { IfOk result (λ trial. IsFixture group.now trial.fixture) }
+        ensures nothing { IfOk result (λ trial. (trial.tally ≡ no_lines) × (vec_items trial.differences ≡ [])) }
+        ensures failed { IfErr result (NotMade group.now.stock (group.now.stock.slots * 1024)) }
+    {
         Ok(Trial {
             heap,
             fixture: Fixture::of(heap, group)?,
