@@ -1,6 +1,7 @@
 -- The stock on a shelf: one part more, and what stands there.
-use Rattle.std.proofs.Common.{◌≡◌, ℕ, suc, ◌+◌, ◌*◌, ◌<◌, ◌⊎◌, Bool, List, [], ◌∷◌, ◌++◌, map, length, get_or, take, drop, Ok, Err, Result, Contains, sym, refl, ap, ◌∙◌, subst, inl, inr, ⊎_elim, arith}
+use Rattle.std.proofs.Common.{◌≡◌, ℕ, suc, ◌+◌, ◌*◌, ◌<◌, ◌⊎◌, Bool, true, leb, List, [], ◌∷◌, ◌++◌, map, length, get_or, take, drop, Ok, Err, Result, IfErr, Contains, sym, refl, ap, ◌∙◌, subst, inl, inr, ⊎_elim, arith}
 use Rattle.std.proofs.Math.Seq.{split_at}
+use Rattle.std.proofs.lemmas.Bool.{leb-true}
 use Rattle.std.proofs.lemmas.List.{map_push, take_more}
 use Rattle.refusals.specs.Due.{Due, none}
 use Rattle.refusals.specs.Numbers.{number}
@@ -25,7 +26,11 @@ use Rattle.runs.specs.declared.answer.Grant.TheVariants.{Done}
 use Rattle.runs.proofs.Steps.{does_leads}
 use Rattle.runs.proofs.Stock.{enter_same}
 use Rattle.runs.proofs.Turns.{ledger_more}
-use Rattle.rebuild.specs.Stocking.{entry, stood_after, stood, entering, AllStand, FirstRefused}
+use Rattle.rebuild.specs.Stocking.{entry, stood_after, stood, entering, AllStand, FirstRefused, NotShown, NoMeans}
+use Rattle.rebuild.specs.declared.failure.Failure.{Failure}
+use Rattle.rebuild.specs.declared.failure.Failure.TheVariants.{Usage, NotRows, NotAPart, Refused, StockSize, Memory, Output}
+use Rattle.rebuild.specs.declared.failure.Side.TheVariants.{Card, Readings, Part as PartSide}
+use Rattle.refusals.proofs.Dues.{refusal≢none}
 use Rattle.rebuild.specs.Trying.{Serves}
 use Rattle.rebuild.specs.declared.job.Stocked.{Stocked}
 
@@ -136,3 +141,41 @@ module _ {R : Type 0} where
         stand = stand;
         due = due_is ∙ so.0;
       }
+
+  -- each part of the stock is entered after those before it
+  abbrev AllEnter : ℕ → List (Part R) → List (Stocked R) → Type 0
+  AllEnter slots parts [] = Unit {0}
+  AllEnter slots parts (part ∷ stock) = (due slots parts (entering part) ≡ none) × AllEnter slots (entry part ∷ parts) stock
+
+  none_refused : (slots : ℕ) (parts : List (Part R)) (stock before after : List (Stocked R)) (part : Stocked R) → AllEnter slots parts stock → stock ≡ before ++ part ∷ after
+      → due slots (stood_after parts before) (entering part) ≡ none
+  none_refused slots parts [] [] after part enters e = absurd (omega (arith, ap length e))
+  none_refused slots parts [] (b ∷ before) after part enters e = absurd (omega (arith, ap length e))
+  none_refused slots parts (q ∷ stock) [] after part enters e = let same : q ≡ part = cc in rw same at enters.0
+  none_refused slots parts (q ∷ stock) (b ∷ before) after part enters e =
+      let same : q ≡ b = cc in
+      let rest : stock ≡ before ++ part ∷ after = cc in
+      none_refused slots (entry b ∷ parts) stock before after part (rw same at enters.1) rest
+
+  -- where each part is entered, a repair fails only by the memory or the output
+  no_means : (stock : List (Stocked R)) (result : Result (Unit {0}) Failure) → IfErr result (NotShown stock) → leb 1 (length stock) ≡ true → leb (length stock) 64 ≡ true → AllEnter (length stock) [] stock → IfErr result NoMeans
+  no_means stock (Ok x) shown some few enters = tt
+  no_means stock (Err failure) (inl e) some few enters = inl e
+  no_means stock (Err Usage) (inr e) some few enters = absurd e
+  no_means stock (Err (NotRows side)) (inr e) some few enters = absurd e
+  no_means stock (Err (NotAPart place)) (inr e) some few enters = absurd e
+  no_means stock (Err (Refused Card reason)) (inr e) some few enters = absurd e
+  no_means stock (Err (Refused Readings reason)) (inr e) some few enters = absurd e
+  no_means stock (Err (Refused (PartSide n) reason)) (inr e) some few enters =
+      absurd (refusal≢none (number reason) (sym e.due ∙ none_refused (length stock) [] stock e.before e.after e.part enters e.place))
+  no_means stock (Err StockSize) (inr e) some few enters = absurd (⊎_elim (λ none. omega (arith, none, leb-true 1 (length stock) some)) (λ many. omega (arith, many, leb-true (length stock) 64 few)) e)
+  no_means stock (Err Memory) (inr e) some few enters = inr refl
+  no_means stock (Err Output) (inr e) some few enters = absurd e
+
+  pub no_means_two : (a b : Stocked R) (result : Result (Unit {0}) Failure) → IfErr result (NotShown (a ∷ b ∷ []))
+      → due 2 [] (entering a) ≡ none → due 2 (entry a ∷ []) (entering b) ≡ none → IfErr result NoMeans
+  no_means_two a b result shown first second = no_means (a ∷ b ∷ []) result shown refl refl (first, (second, tt))
+
+  pub no_means_three : (a b c : Stocked R) (result : Result (Unit {0}) Failure) → IfErr result (NotShown (a ∷ b ∷ c ∷ []))
+      → due 3 [] (entering a) ≡ none → due 3 (entry a ∷ []) (entering b) ≡ none → due 3 (entry b ∷ entry a ∷ []) (entering c) ≡ none → IfErr result NoMeans
+  no_means_three a b c result shown first second third = no_means (a ∷ b ∷ c ∷ []) result shown refl refl (first, (second, (third, tt)))

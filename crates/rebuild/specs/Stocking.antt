@@ -50,3 +50,11 @@ module _ {R : Type 0} where
   NotStocked stock StockSize = (length stock ≡ 0) ⊎ (64 < length stock)
   NotStocked stock Memory = Unit {0}
   NotStocked stock Output = ⊥
+
+  -- why a repair is not shown: its stock does not stand, or the output fails
+  abbrev pub NotShown : List (Stocked R) → Failure → Type 0
+  NotShown stock failure = (failure ≡ Output) ⊎ NotStocked stock failure
+
+-- where a stock stands nothing is left that fails but the memory and the output
+abbrev pub NoMeans : Failure → Type 0
+NoMeans failure = (failure ≡ Output) ⊎ (failure ≡ Memory)

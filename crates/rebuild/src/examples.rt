@@ -1,3 +1,6 @@
+ghost use Rattle.std.specs.Prelude.{IfErr};
+ghost use Rattle.rebuild.specs.Stocking.{NoMeans};
+
 use crate::failure::Failure;
 use crate::job::{Job, Stocked};
 use crate::printing::show_repair;
@@ -29,7 +32,9 @@ const RIGHT: Drive = Drive {
 };
 
 // A card of three inputs, two of which may be exchanged. The sample is wired wrong at first.
-pub fn repair_of_on_off(rt: &HostRuntime) -> Result<(), Failure> {
+pub fn repair_of_on_off(rt: &HostRuntime) -> Result<(), Failure>
+    ensures { IfErr result NoMeans }
+{
     let small = Table {
         inputs: 2,
         rows: &[F, T, T, F],
@@ -76,7 +81,9 @@ fn show_drives<'a>(
     near_miss: &'a [Drive; 4],
     fitting: &'a [Drive; 4],
     readings: &'a [Drive; 4],
-) -> Result<(), Failure> {
+) -> Result<(), Failure>
+    ensures { IfErr result NoMeans }
+{
     let near_miss = Table {
         inputs: 2,
         rows: near_miss,
@@ -109,7 +116,9 @@ fn show_drives<'a>(
 }
 
 // A card whose rows are drives. Rests are the same whatever their holds.
-pub fn repair_of_drives(rt: &HostRuntime) -> Result<(), Failure> {
+pub fn repair_of_drives(rt: &HostRuntime) -> Result<(), Failure>
+    ensures { IfErr result NoMeans }
+{
     let card = [REST, LONG_REST, LEFT, RIGHT];
     let near_miss = [REST, LEFT, RIGHT, LEFT];
     let fitting = [LONG_REST, LEFT, LONG_REST, RIGHT];

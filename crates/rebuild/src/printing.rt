@@ -1,3 +1,6 @@
+ghost use Rattle.std.specs.Prelude.{length, IfOk, IfErr};
+ghost use Rattle.rebuild.specs.Stocking.{AllStand, NotShown};
+
 use crate::failure::Failure;
 use crate::job::{Job, Stocked};
 use crate::repair::Repair;
@@ -95,7 +98,10 @@ fn show_classes(rt: &HostRuntime, classes: &[u8]) -> io::Result<()> {
 }
 
 // One repair from beginning to end.
-pub fn show_repair<R: Show>(rt: &HostRuntime, job: &Job<R>) -> Result<(), Failure> {
+pub fn show_repair<R: Show>(rt: &HostRuntime, job: &Job<R>) -> Result<(), Failure>
+    ensures stand { IfOk result (λ _. AllStand (length job.now.stock.now) job.now.stock.now) }
+    ensures failed { IfErr result (NotShown job.now.stock.now) }
+{
     let repair = Repair::of(rt.alloc(), &STANDARD_PILE, job)?;
     show_stock(rt, job.stock)?;
     print!(rt; "the burnt card, {} inputs: ", job.card.inputs)?;
