@@ -1,11 +1,11 @@
 -- What is due to a line.
-use Rattle.std.specs.Prelude.{◌≡◌, ℕ, ◌≤◌, ◌↔◌, ◌⊎◌, Bool, List, ◌++◌, map, codes, Option, Some, None, IsTrue}
+use Rattle.std.specs.Prelude.{◌≡◌, ℕ, ◌*◌, ◌≤◌, ◌↔◌, ◌⊎◌, Bool, true, List, ◌++◌, map, codes, Option, Some, None, IsTrue}
 use Rattle.refusals.specs.Due.{Due as Refusing, none, refusal}
 use Rattle.rows.specs.declared.on_off.OnOff.{OnOff}
 use Rattle.typed_rows.specs.Reading.{digit}
 use Rattle.tokens.specs.Phrases.{IsShort}
-use Rattle.ledger.specs.Ledger.{Call, fit, due}
-use Rattle.ledger.specs.Law.{refused, done}
+use Rattle.ledger.specs.Ledger.{Call, fit, stands, due}
+use Rattle.ledger.specs.Law.{refused, done, proposed}
 use Rattle.answers.specs.Spelling.{text_of}
 use Rattle.shelf_line.specs.Lines.{ReadAs}
 use Rattle.damaged_lines.specs.declared.reader.Due.{Due}
@@ -45,8 +45,15 @@ Told (Refused number) told = IsLineRefusal number → text_of (refused number) �
 Told Done told = text_of done ≡ told ++ codes "\n"
 Told (Fitted inputs digits) told = Unit {0}
 
--- whether this answer is the one that is due; where a card is to be fitted it may be refused with 10
-abbrev pub IsMet : Due → List ℕ → Bool → Type 0
-IsMet (Refused number) answer met = IsTrue met ↔ (IsShort number × (answer ≡ text_of (refused number)))
-IsMet Done answer met = IsTrue met ↔ (answer ≡ text_of done)
-IsMet (Fitted inputs digits) answer met = answer ≡ text_of (refused 10) → IsTrue met
+-- the answer proposes a standing part, pins, and no more struck pairs than there are
+abbrev pub NamesPart : Stock → (inputs : ℕ) → List ℕ → Type 0
+NamesPart stock inputs answer =
+    (number : ℕ) × (pins : List ℕ) × (struck : ℕ)
+    × (stands number (parts_of stock) ≡ true) × (struck ≤ inputs * inputs) × (answer ≡ text_of (proposed number inputs pins struck))
+
+-- whether this answer is the one that is due; where a card is to be fitted it is a proposal, or refused with 10
+abbrev pub IsMet : Stock → Due → List ℕ → Bool → Type 0
+IsMet stock (Refused number) answer met = IsTrue met ↔ (IsShort number × (answer ≡ text_of (refused number)))
+IsMet stock Done answer met = IsTrue met ↔ (answer ≡ text_of done)
+IsMet stock (Fitted inputs digits) answer met =
+    (answer ≡ text_of (refused 10) → IsTrue met) × (IsTrue met → (answer ≡ text_of (refused 10)) ⊎ NamesPart stock inputs answer)

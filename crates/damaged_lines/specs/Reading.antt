@@ -7,6 +7,7 @@ use Rattle.tokens.specs.Phrases.{IsShort}
 use Rattle.ledger.specs.Law.{refused}
 use Rattle.answers.specs.Spelling.{text_of}
 use Rattle.shelf_forms.specs.Forms.{enter, fit, text, rows_text, IsLawful}
+use Rattle.texts.specs.Pins.{pins_text}
 use Rattle.damaged_lines.specs.declared.reader.Ending.{Ending}
 
 -- the number of at most five digits that the text is
@@ -33,3 +34,7 @@ abbrev pub NoTable : List ℕ → Type 0
 NoTable line =
     ((number inputs : ℕ) (rows : List OnOff) → IsLawful (enter number inputs rows) → line ≢ text (enter number inputs rows))
     × ((inputs : ℕ) (rows : List OnOff) → IsLawful (fit inputs rows) → line ≢ text (fit inputs rows))
+
+-- pins of one digit, each after a space
+abbrev pub ArePins : List ℕ → Type 0
+ArePins text = (pins : List ℕ) × (text ≡ pins_text pins)

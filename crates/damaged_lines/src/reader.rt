@@ -1,4 +1,4 @@
-ghost use Rattle.std.specs.Prelude.{◌≡◌, ◌≢◌, ◌+◌, ◌<◌, ◌==◌, ◌↔◌, ◌∷◌, ◌++◌, ℕ, List, All, if◌then◌else◌, length, nat_le, codes, IsTrue, MatchOption};
+ghost use Rattle.std.specs.Prelude.{◌≡◌, ◌≢◌, ◌+◌, ◌<◌, ◌==◌, ◌↔◌, ◌∷◌, ◌++◌, ℕ, List, All, if◌then◌else◌, length, nat_le, codes, true, IsTrue, IfSome, MatchOption};
 ghost use Rattle.rows.specs.declared.on_off.OnOff.TheVariants.{Off, On};
 ghost use Rattle.damaged_lines.specs.declared.reader.Due.TheVariants.{Done, Refused};
 ghost use Rattle.tokens.specs.declared.characters.Kind.TheVariants.{Digit, RowDigit};
@@ -14,8 +14,8 @@ ghost use Rattle.answers.specs.Spelling.{text_of};
 ghost use Rattle.shelf_forms.specs.Forms.{Said, remove, text, IsLawful, Says, Reads};
 ghost use Rattle.shelf_line.specs.Lines.{asked};
 ghost use Rattle.damaged_lines.specs.Stocks.{parts_of};
-ghost use Rattle.damaged_lines.specs.Reading.{WritesNumber, Refuses, table_text, EndsWith, NoTable};
-ghost use Rattle.damaged_lines.specs.Dues.{as_due, IsDone, IsDue, LineDue, IsLineRefusal, Told, IsMet};
+ghost use Rattle.damaged_lines.specs.Reading.{WritesNumber, Refuses, table_text, EndsWith, NoTable, ArePins};
+ghost use Rattle.damaged_lines.specs.Dues.{as_due, IsDone, IsDue, LineDue, IsLineRefusal, Told, NamesPart, IsMet};
 
 use crate::stock::{Part, Stock};
 use rows::OnOff;
@@ -62,11 +62,18 @@ fn before<'a>(text: &'a [u8], end: &[u8]) -> Option<&'a [u8]>
     text.strip_suffix(end)
 }
 
+// What comes after this front.
+fn after<'a>(text: &'a [u8], front: &[u8]) -> Option<&'a [u8]>
+    ensures { MatchOption result ((rest : List ℕ) → text.now ≢ front.now ++ rest) (λ rest. text.now ≡ front.now ++ rest.now) }
+{
+    text.strip_prefix(front)
+}
+
 // What stands between this front and this end.
 fn between<'a>(text: &'a [u8], front: &[u8], end: &[u8]) -> Option<&'a [u8]>
     ensures { MatchOption result ((inner : List ℕ) → text.now ≢ front.now ++ (inner ++ end.now)) (λ inner. text.now ≡ front.now ++ (inner.now ++ end.now)) }
 {
-    before(text.strip_prefix(front)?, end)
+    before(after(text, front)?, end)
 }
 
 // What comes before the last space, and what comes after it.
@@ -265,7 +272,7 @@ impl<'a> Due<'a> {
     // Whether this answer is the one that is due. Of a fit it is asked that the card agrees with a standing part under
     // the wiring, or that it is refused with 10.
     pub fn is_met_by(self, answer: &[u8], stock: &Stock) -> bool
-        ensures { IsMet self.entry answer.now result }
+        ensures { IsMet stock.now self.entry answer.now result }
     {
         match self {
             Due::Refused(number) => refuses(answer, number),
@@ -290,39 +297,62 @@ fn refuses(answer: &[u8], number: u32) -> bool
     refusal(answer) == Some(number)
 }
 
+// What comes before the first space, and what comes after it.
+fn first_word(text: &[u8]) -> Option<(&[u8], &[u8])>
+    ensures { IfSome result (λ parts. text.now ≡ parts.0.now ++ (32 ∷ parts.1.now)) }
+{
+    let space = text.iter().position(|&byte| byte == b' ')?;
+    Some((&text[..space], &text[space + 1..]))
+}
+
 // Whether an answer names a standing part and a wiring under which the card agrees with it.
-fn fits(answer: &[u8], inputs: usize, digits: &[u8], stock: &Stock) -> Option<bool> {
-    let rest = answer.strip_prefix(b"(fit ")?.strip_suffix(b"))\n")?;
-    let (rest, struck) = last_word(rest)?;
-    let struck = number(struck)?;
-    let rest = rest.strip_suffix(b") (struck")?;
-    let (named, rest) = rest.split_at(rest.iter().position(|&byte| byte == b' ')?);
-    let pins = rest.strip_prefix(b" (to")?;
+fn fits(answer: &[u8], inputs: usize, digits: &[u8], stock: &Stock) -> Option<bool>
+    ensures { result ≡ Some true → NamesPart stock.now inputs answer.now }
+{
+    let (rest, struck) = last_word(between(answer, b"(fit ", b"))\n")?)?;
+    let struck = number(struck)? as usize;
+    let (named, pins) = first_word(before(rest, b") (struck")?)?;
+    let pins = after(pins, b"(to")?;
     let part = stock.part(number(named)?)?;
-    Some(struck as usize <= inputs.saturating_mul(inputs) && agrees(pins, digits, part))
+    Some(struck <= inputs.saturating_mul(inputs) && agrees(pins, digits, part))
 }
 
 // Whether the pins, each a digit after a space, are a wiring under which card and part agree.
-fn agrees(pins: &[u8], digits: &[u8], part: &Part) -> bool {
-    part.rows.len() == digits.len()
-        && carried(pins, usize::MAX) == digits.len().checked_sub(1)
+fn agrees(pins: &[u8], digits: &[u8], part: &Part) -> bool
+    ensures { IsTrue result → ArePins pins.now }
+{
+    let Some(last) = carried(pins, usize::MAX) else {
+        return false;
+    };
+    digits.len().checked_sub(1) == Some(last)
+        && part.rows.len() == digits.len()
         && digits.iter().enumerate().all(|(row, &digit)| {
             let to = carried(pins, row).unwrap_or(usize::MAX);
             part.rows.as_slice().get(to) == Some(&on_off(digit))
         })
 }
 
+// The pin that comes next, a digit after a space, and what comes after it.
+fn next_pin(text: &[u8]) -> Option<(u8, &[u8])>
+    ensures { IfSome result (λ next. (next.0 < 10) × (text.now ≡ 32 ∷ ((48 + next.0) ∷ next.1.now))) }
+{
+    match text {
+        &[b' ', digit @ b'0'..=b'9', ref rest @ ..] => Some((digit - b'0', rest)),
+        _ => None,
+    }
+}
+
 // The part row in which each pin has the value that its input has in this row, and none where the pins are not written
 // as they should be or one stands twice.
-fn carried(pins: &[u8], row: usize) -> Option<usize> {
+fn carried(pins: &[u8], row: usize) -> Option<usize>
+    ensures { IfSome result (λ _. ArePins pins.now) }
+{
+    let mut left = pins;
     let mut inputs = row;
     let mut seen = 0;
     let mut to = 0;
-    for pin in pins.chunks(2) {
-        let &[b' ', digit @ b'0'..=b'9'] = pin else {
-            return None;
-        };
-        let bit = 1usize << (digit - b'0');
+    while let Some((pin, rest)) = next_pin(left) {
+        let bit = 1usize << pin;
         if seen & bit != 0 {
             return None;
         }
@@ -331,8 +361,9 @@ fn carried(pins: &[u8], row: usize) -> Option<usize> {
             to |= bit;
         }
         inputs /= 2;
+        left = rest;
     }
-    Some(to)
+    left.is_empty().then_some(to)
 }
 
 pub fn on_off(digit: u8) -> OnOff
