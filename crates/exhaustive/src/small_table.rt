@@ -1,4 +1,5 @@
 ghost use Rattle.exhaustive.specs.Agreement.{worth_of};
+ghost use Rattle.exhaustive.specs.Codes.{codes_of};
 ghost use Rattle.std.specs.Prelude.{◌≡◌, ◌≤◌, ◌^◌, length, take, ⊤};
 
 use crate::kind::Kind;
@@ -108,15 +109,15 @@ pub struct Codes {
 
 impl Codes {
     // What the part does in each row.
-    pub fn of<R: Kind>(rows: &[R]) -> Codes {
+    pub fn of<R: Kind>(rows: &[R]) -> Codes
+        ensures { take result.size result.codes ≡ codes_of R.doing rows.now }
+    {
+        let size = rows.len().min(64);
         let mut codes = [0; 64];
-        for (code, row) in codes.iter_mut().zip(rows) {
-            *code = row.action().code();
+        for (r, row) in rows[..size].iter().enumerate() {
+            codes[r] = row.action().code();
         }
-        Codes {
-            size: rows.len().min(64),
-            codes,
-        }
+        Codes { size, codes }
     }
 
     pub fn as_slice(&self) -> &[u16]
