@@ -1,6 +1,6 @@
 -- What trying wirings in order finds.
 use Rattle.std.specs.Prelude.{◌≡◌, ℕ, ◌<◌, List, length, take, slice_index_or, Option, Some, None}
-use Rattle.exhaustive.specs.declared.wirings.Pins.{Pins}
+use Rattle.exhaustive.specs.declared.pins.Pins.{Pins}
 
 -- the pins of the first inputs
 abbrev pub pins_of : Pins → List ℕ

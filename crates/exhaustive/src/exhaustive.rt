@@ -2,8 +2,8 @@ ghost use Rattle.std.specs.Prelude.{◌≡◌, ◌*◌, ◌%◌, ◌<◌, ◌≤
 ghost use Rattle.exhaustive.specs.Agreement.{carried_row, worth_of, Agrees};
 ghost use Rattle.exhaustive.specs.Trying.{pins_of, First};
 
+use crate::pins::Pins;
 use crate::small_table::worth;
-use crate::wirings::Pins;
 
 // What the pin of an input is worth in a row: nothing where the input is off.
 fn shifted(value: usize, pin: u8) -> usize

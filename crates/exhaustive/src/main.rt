@@ -10,6 +10,7 @@ mod failure;
 mod family;
 mod kind;
 mod level;
+mod pins;
 mod printing;
 mod request;
 mod small_table;

@@ -3,9 +3,10 @@ ghost use Rattle.std.specs.Prelude.{◌≡◌, ◌≤◌, ◌<◌, IfSome, vec_l
 use crate::comparison::{Comparison, Pair};
 use crate::failure::Failure;
 use crate::kind::Kind;
+use crate::pins::Pins;
 use crate::printing::{PinList, RowList};
 use crate::small_table::SmallTable;
-use crate::wirings::{Pins, Wirings};
+use crate::wirings::Wirings;
 use draws::Random;
 use fitting::struck_by;
 use inventory::{Proposal, Shelf};

@@ -1,51 +1,6 @@
-ghost use Rattle.std.specs.Prelude.{◌≡◌, ◌+◌, ◌<◌, ◌≤◌, length, take};
-
+use crate::pins::Pins;
 use crate::small_table::MOST_INPUTS;
 use std::alloc::{AllocError, Global};
-
-// The pins of the first inputs, in order.
-#[derive(Clone, Copy, PartialEq, Eq)]
-pub struct Pins {
-    len: usize,
-    pins: [u8; 6],
-    ghost short: { len ≤ 6 },
-    ghost whole: { length pins ≡ 6 },
-}
-
-impl Pins {
-    pub const NONE: Pins = Pins {
-        len: 0,
-        pins: [0; 6],
-    };
-
-    pub fn as_slice(&self) -> &[u8]
-        ensures pins { result.now ≡ take self.now.len self.now.pins }
-        ensures short { length result.now ≤ 6 }
-    {
-        &self.pins[..self.len]
-    }
-
-    // The first six of these pins.
-    pub fn of(pins: &[u8]) -> Pins {
-        let mut places = [0; 6];
-        for (place, &pin) in places.iter_mut().zip(pins) {
-            *place = pin;
-        }
-        Pins {
-            len: pins.len().min(MOST_INPUTS),
-            pins: places,
-        }
-    }
-
-    // These pins and one more, where there is room.
-    pub fn with(mut self, pin: u8) -> Pins {
-        if self.len < MOST_INPUTS {
-            self.pins[self.len] = pin;
-            self.len += 1;
-        }
-        self
-    }
-}
 
 // The beginnings, each with every pin that it does not have yet.
 fn extended(heap: Global, begun: &[Pins], inputs: u8) -> Result<Vec<Pins>, AllocError> {

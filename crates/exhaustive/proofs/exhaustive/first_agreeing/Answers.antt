@@ -1,7 +1,7 @@
 use Rattle.std.proofs.Common.{◌≡◌, ℕ, List, subst, sym, ap, ◌∙◌, get_or, ⊎_elim, arith}
 use Rattle.std.proofs.lemmas.Bool.{cases_eq, false≢true}
 use Rattle.std.proofs.lemmas.List.{get_or_default}
-use Rattle.exhaustive.specs.declared.wirings.Pins.{Pins}
+use Rattle.exhaustive.specs.declared.pins.Pins.{Pins}
 use Rattle.exhaustive.specs.Agreement.{Agrees}
 use Rattle.exhaustive.specs.Trying.{pins_of}
 use Rattle.exhaustive.proofs.exhaustive.first_agreeing.Goals as goal

@@ -1,6 +1,6 @@
 use Rattle.std.proofs.Common.{ℕ, ◌<◌}
 use Rattle.std.specs.Prelude.{slice_index_or}
-use Rattle.exhaustive.specs.declared.wirings.Pins.{Pins}
+use Rattle.exhaustive.specs.declared.pins.Pins.{Pins}
 use Rattle.exhaustive.specs.Agreement.{Agrees}
 use Rattle.exhaustive.specs.Trying.{pins_of}
 use Rattle.exhaustive.proofs.exhaustive.first_agreeing.Given as goal
