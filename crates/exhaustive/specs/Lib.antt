@@ -4,4 +4,5 @@ pub mod Agreement
 pub mod Counts
 pub mod Texts
 pub mod Trying
+pub mod Wirings
 pub mod Requests
