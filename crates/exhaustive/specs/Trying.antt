@@ -1,5 +1,6 @@
 -- What trying wirings in order finds.
-use Rattle.std.specs.Prelude.{◌≡◌, ℕ, ◌<◌, List, length, take, slice_index_or, Option, Some, None}
+use Rattle.std.specs.Prelude.{◌≡◌, ℕ, ◌+◌, ◌<◌, ◌⊎◌, List, [], ◌∷◌, length, take, slice_index_or, Option, Some, None}
+use Rattle.exhaustive.specs.Wirings.{AreWirings, Before, IsWiring}
 use Rattle.exhaustive.specs.declared.pins.Pins.{Pins}
 
 -- the pins of the first inputs
@@ -11,3 +12,18 @@ abbrev pub First : (Pins → Type 0) → List Pins → Option Pins → Type 0
 First P wirings (Some found) =
     (k : ℕ) × (k < length wirings) × (slice_index_or wirings k found ≡ found) × P found × ((j : ℕ) → j < k → P (slice_index_or wirings j found) → ⊥)
 First P wirings None = (k : ℕ) (d : Pins) → k < length wirings → P (slice_index_or wirings k d) → ⊥
+
+-- so many in the list have P, and the others do not
+abbrev pub Counted : {X : Type 0} → (X → Type 0) → List X → ℕ → Type 0
+Counted P [] n = n ≡ 0
+Counted P (x ∷ xs) n = (P x × (m : ℕ) × (n ≡ m + 1) × Counted P xs m) ⊎ ((P x → ⊥) × Counted P xs n)
+
+-- the first of all wirings of n inputs of which P holds, or none exactly where it holds of none
+abbrev pub FirstOfAll : (List ℕ → Type 0) → ℕ → Option Pins → Type 0
+FirstOfAll P n (Some pins) =
+    IsWiring n (pins_of pins) × P (pins_of pins) × ((other : List ℕ) → IsWiring n other → P other → Before other (pins_of pins) → ⊥)
+FirstOfAll P n None = (wiring : List ℕ) → IsWiring n wiring → P wiring → ⊥
+
+-- P holds of so many of all wirings of n inputs
+abbrev pub CountedOfAll : (List ℕ → Type 0) → ℕ → ℕ → Type 0
+CountedOfAll P n count = (wirings : List (List ℕ)) × AreWirings n wirings × Counted P wirings count

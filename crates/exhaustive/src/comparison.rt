@@ -1,5 +1,8 @@
 ghost use Rattle.std.specs.Prelude.{◌≡◌, ◌+◌, ◌≤◌};
+ghost use Rattle.exhaustive.specs.Agreement.{Agrees};
+ghost use Rattle.exhaustive.specs.Codes.{codes_of};
 ghost use Rattle.exhaustive.specs.Counts.{at_most};
+ghost use Rattle.exhaustive.specs.Trying.{CountedOfAll, FirstOfAll};
 
 use crate::exhaustive::{agree, count_agreeing, first_agreeing, lowest_exchangeable};
 use crate::failure::Failure;
@@ -33,7 +36,10 @@ pub struct Pair<'a, R> {
 }
 
 impl<'a, R: Kind> Pair<'a, R> {
-    pub fn of(wirings: &'a Wirings, card: &'a Table<'a, R>, part: &'a Table<'a, R>) -> Pair<'a, R> {
+    pub fn of(wirings: &'a Wirings, card: &'a Table<'a, R>, part: &'a Table<'a, R>) -> Pair<'a, R>
+        ensures first { card.now.inputs ≤ 6 → FirstOfAll (Agrees (codes_of R.doing card.now.rows.now) (codes_of R.doing part.now.rows.now)) card.now.inputs result.first }
+        ensures agreeing { card.now.inputs ≤ 6 → CountedOfAll (Agrees (codes_of R.doing card.now.rows.now) (codes_of R.doing part.now.rows.now)) card.now.inputs result.agreeing }
+    {
         let (card_codes, part_codes) = (Codes::of(card.rows), Codes::of(part.rows));
         let wirings = wirings.of(card.inputs);
         let (cards, parts) = (card_codes.as_slice(), part_codes.as_slice());

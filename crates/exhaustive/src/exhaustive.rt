@@ -1,6 +1,6 @@
 ghost use Rattle.std.specs.Prelude.{◌≡◌, ◌*◌, ◌%◌, ◌<◌, ◌≤◌, length, Decides, IfSome, IfNone, All, Contains, take};
 ghost use Rattle.exhaustive.specs.Agreement.{carried_row, worth_of, Agrees};
-ghost use Rattle.exhaustive.specs.Trying.{pins_of, First};
+ghost use Rattle.exhaustive.specs.Trying.{pins_of, Counted, First};
 
 use crate::pins::Pins;
 use crate::small_table::worth;
@@ -60,11 +60,16 @@ pub fn first_agreeing(wirings: &[Pins], card: &[u16], part: &[u16]) -> Option<Pi
 }
 
 // How many wirings agree.
-pub fn count_agreeing(wirings: &[Pins], card: &[u16], part: &[u16]) -> usize {
-    wirings
-        .iter()
-        .filter(|pins| agree(card, part, pins.as_slice()))
-        .count()
+pub fn count_agreeing(wirings: &[Pins], card: &[u16], part: &[u16]) -> usize
+    ensures { Counted (λ pins. Agrees card.now part.now (pins_of pins)) wirings.now result }
+{
+    let mut agreeing = 0;
+    for pins in wirings {
+        if agree(card, part, pins.as_slice()) {
+            agreeing += 1;
+        }
+    }
+    agreeing
 }
 
 // The row in which inputs i and k have each other's values.
