@@ -1,4 +1,6 @@
-ghost use Rattle.std.specs.Prelude.{◌≡◌, ◌≤◌, ◌<◌, IfSome, vec_len};
+ghost use Rattle.std.specs.Prelude.{◌≡◌, ◌≤◌, ◌<◌, IfSome, IsPermutation, length, vec_len};
+ghost use Rattle.std.specs.Fn.{iterate};
+ghost use Rattle.draws.specs.Draws.{next};
 
 use crate::comparison::{Comparison, Pair};
 use crate::failure::Failure;
@@ -32,7 +34,10 @@ pub struct Stock<'a, R> {
 }
 
 // Exchanges each item with one from there on that is drawn.
-pub fn shuffle<T>(items: &mut [T], random: &mut Random) {
+pub fn shuffle<T>(items: &mut [T], random: &mut Random)
+    ensures items { IsPermutation items.old items.new }
+    ensures draws { random.new.0 ≡ iterate next (length items.old) random.old.0 }
+{
     for k in 0..items.len() {
         items.swap(k, k + random.below(items.len() - k));
     }
