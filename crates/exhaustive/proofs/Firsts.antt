@@ -3,9 +3,8 @@ use Rattle.std.proofs.Common.{◌≡◌, ℕ, ◌<◌, List, [], ◌∷◌, Some
 use Rattle.std.proofs.lemmas.Bool.{cases_order}
 use Rattle.std.proofs.lemmas.List.{get_or-map, get_or_default, length-map}
 use Rattle.exhaustive.specs.declared.pins.Pins.{Pins}
-use Rattle.exhaustive.specs.Trying.{pins_of, Counted, CountedOfAll, First, FirstOfAll}
+use Rattle.exhaustive.specs.Trying.{pins_of, First, FirstOfAll}
 use Rattle.exhaustive.specs.Wirings.{AreWirings, Before, IsWiring}
-use Rattle.exhaustive.proofs.Counting.{counted-map}
 
 before_asym : (v w : List ℕ) → Before v w → Before w v → ⊥
 before_asym [] [] first second = first
@@ -48,6 +47,3 @@ first_of_all P n wirings (Some pins) all first =
           apart)
           (cases_order j k)),
     )
-
-pub counted_of_all : (P : List ℕ → Type 0) (n : ℕ) (wirings : List Pins) (count : ℕ) → AreWirings n (map pins_of wirings) → Counted (λ pins. P (pins_of pins)) wirings count → CountedOfAll P n count
-counted_of_all P n wirings count all counted = (map pins_of wirings, all, counted-map P pins_of wirings count counted)

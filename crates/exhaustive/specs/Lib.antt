@@ -6,3 +6,4 @@ pub mod Texts
 pub mod Trying
 pub mod Wirings
 pub mod Requests
+pub mod Tallies

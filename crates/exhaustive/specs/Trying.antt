@@ -1,6 +1,6 @@
 -- What trying wirings in order finds.
 use Rattle.std.specs.Prelude.{◌≡◌, ℕ, ◌+◌, ◌<◌, ◌⊎◌, List, [], ◌∷◌, length, take, slice_index_or, Option, Some, None}
-use Rattle.exhaustive.specs.Wirings.{AreWirings, Before, IsWiring}
+use Rattle.exhaustive.specs.Wirings.{Before, IsWiring}
 use Rattle.exhaustive.specs.declared.pins.Pins.{Pins}
 
 -- the pins of the first inputs
@@ -23,7 +23,3 @@ abbrev pub FirstOfAll : (List ℕ → Type 0) → ℕ → Option Pins → Type 0
 FirstOfAll P n (Some pins) =
     IsWiring n (pins_of pins) × P (pins_of pins) × ((other : List ℕ) → IsWiring n other → P other → Before other (pins_of pins) → ⊥)
 FirstOfAll P n None = (wiring : List ℕ) → IsWiring n wiring → P wiring → ⊥
-
--- P holds of so many of all wirings of n inputs
-abbrev pub CountedOfAll : (List ℕ → Type 0) → ℕ → ℕ → Type 0
-CountedOfAll P n count = (wirings : List (List ℕ)) × AreWirings n wirings × Counted P wirings count

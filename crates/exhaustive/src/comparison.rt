@@ -1,8 +1,10 @@
-ghost use Rattle.std.specs.Prelude.{◌≡◌, ◌+◌, ◌≤◌};
+ghost use Rattle.std.specs.Prelude.{◌≡◌, ◌+◌, ◌++◌, ◌∷◌, [], ◌≤◌, if◌then◌else◌, map, nat_lt, vec_len, OnOk};
 ghost use Rattle.exhaustive.specs.Agreement.{Agrees};
 ghost use Rattle.exhaustive.specs.Codes.{codes_of};
 ghost use Rattle.exhaustive.specs.Counts.{at_most};
-ghost use Rattle.exhaustive.specs.Trying.{CountedOfAll, FirstOfAll};
+ghost use Rattle.exhaustive.specs.Tallies.{counts, PairCounted};
+ghost use Rattle.exhaustive.specs.Trying.{pins_of, Counted, FirstOfAll};
+ghost use Rattle.exhaustive.specs.Wirings.{AreWirings};
 
 use crate::exhaustive::{agree, count_agreeing, first_agreeing, lowest_exchangeable};
 use crate::failure::Failure;
@@ -38,7 +40,10 @@ pub struct Pair<'a, R> {
 impl<'a, R: Kind> Pair<'a, R> {
     pub fn of(wirings: &'a Wirings, card: &'a Table<'a, R>, part: &'a Table<'a, R>) -> Pair<'a, R>
         ensures first { card.now.inputs ≤ 6 → FirstOfAll (Agrees (codes_of R.doing card.now.rows.now) (codes_of R.doing part.now.rows.now)) card.now.inputs result.first }
-        ensures agreeing { card.now.inputs ≤ 6 → CountedOfAll (Agrees (codes_of R.doing card.now.rows.now) (codes_of R.doing part.now.rows.now)) card.now.inputs result.agreeing }
+        ensures wirings { card.now.inputs ≤ 6 → AreWirings card.now.inputs (map pins_of result.wirings.now) }
+        ensures agreeing { Counted (Agrees (codes_of R.doing card.now.rows.now) (codes_of R.doing part.now.rows.now)) (map pins_of result.wirings.now) result.agreeing }
+        ensures card { result.card ≡ card.entry }
+        ensures part { result.part ≡ part.entry }
     {
         let (card_codes, part_codes) = (Codes::of(card.rows), Codes::of(part.rows));
         let wirings = wirings.of(card.inputs);
@@ -131,7 +136,11 @@ pub struct Comparison<'a> {
 }
 
 impl<'a> Comparison<'a> {
-    pub fn new(heap: Global, wirings: &'a Wirings) -> Comparison<'a> {
+    pub fn new(heap: Global, wirings: &'a Wirings) -> Comparison<'a>
+        ensures tally { result.tally ≡ Tally.EMPTY }
+        ensures told { result.told.items ≡ [] }
+        ensures wirings { result.wirings.now ≡ wirings.now }
+    {
         Comparison {
             heap,
             wirings,
@@ -142,7 +151,11 @@ impl<'a> Comparison<'a> {
 
     // Counts a difference, and tells it while few are told.
     pub fn tell(&mut self, text: String) -> Result<(), AllocError>
-        ensures { self.new.tally.differences ≡ at_most (self.old.tally.differences + 1) }
+        ensures counts { counts self.new.tally ≡ counts self.old.tally }
+        ensures differences { self.new.tally.differences ≡ at_most (self.old.tally.differences + 1) }
+        ensures rises { self.old.tally.differences ≤ self.new.tally.differences }
+        ensures told { OnOk result (self.new.told.items ≡ (if nat_lt (vec_len self.old.told) 20 then self.old.told.items ++ text ∷ [] else self.old.told.items)) }
+        ensures wirings { self.new.wirings ≡ self.old.wirings }
     {
         self.tally.differ();
         if self.told.len() < MOST_TOLD {
@@ -159,7 +172,11 @@ impl<'a> Comparison<'a> {
         name: &str,
         library: impl fmt::Display + Drop,
         due: impl fmt::Display + Drop,
-    ) -> Result<(), AllocError> {
+    ) -> Result<(), AllocError>
+        ensures counts { counts self.new.tally ≡ counts self.old.tally }
+        ensures differences { self.old.tally.differences ≤ self.new.tally.differences }
+        ensures wirings { self.new.wirings ≡ self.old.wirings }
+    {
         let text = format!(in self.heap;
             "{asked} with {name}, {pair}: the library says {library}, every wiring {due}"
         )?;
@@ -171,7 +188,11 @@ impl<'a> Comparison<'a> {
         name: &str,
         pile: &P,
         pair: &Pair<R>,
-    ) -> Result<(), AllocError> {
+    ) -> Result<(), AllocError>
+        ensures counts { counts self.new.tally ≡ counts self.old.tally }
+        ensures differences { self.old.tally.differences ≤ self.new.tally.differences }
+        ensures wirings { self.new.wirings ≡ self.old.wirings }
+    {
         let wiring = wiring_by(pile, pair.card, pair.part);
         let pins = match &wiring {
             Some(wiring) => Some(wiring.pins()),
@@ -189,7 +210,11 @@ impl<'a> Comparison<'a> {
         name: &str,
         pile: &P,
         pair: &Pair<R>,
-    ) -> Result<(), AllocError> {
+    ) -> Result<(), AllocError>
+        ensures counts { counts self.new.tally ≡ counts self.old.tally }
+        ensures differences { self.old.tally.differences ≤ self.new.tally.differences }
+        ensures wirings { self.new.wirings ≡ self.old.wirings }
+    {
         let strikes = strikes_by(pile, pair.card, pair.part);
         if pair.uses_struck(&strikes) {
             self.differ(
@@ -213,7 +238,11 @@ impl<'a> Comparison<'a> {
         name: &str,
         pile: &P,
         pair: &Pair<R>,
-    ) -> Result<u32, AllocError> {
+    ) -> Result<u32, AllocError>
+        ensures counts { counts self.new.tally ≡ counts self.old.tally }
+        ensures differences { self.old.tally.differences ≤ self.new.tally.differences }
+        ensures wirings { self.new.wirings ≡ self.old.wirings }
+    {
         let spread = spread_by(pile, pair.card, pair.part);
         if (spread as usize) < pair.agreeing {
             self.differ(pair, "the spread", name, spread, pair.agreeing)?;
@@ -227,14 +256,22 @@ impl<'a> Comparison<'a> {
         name: &str,
         pile: &P,
         pair: &Pair<R>,
-    ) -> Result<u32, AllocError> {
+    ) -> Result<u32, AllocError>
+        ensures counts { counts self.new.tally ≡ counts self.old.tally }
+        ensures differences { self.old.tally.differences ≤ self.new.tally.differences }
+        ensures wirings { self.new.wirings ≡ self.old.wirings }
+    {
         self.wiring(name, pile, pair)?;
         self.strikes(name, pile, pair)?;
         self.spread(name, pile, pair)
     }
 
     // Compares the row check at a wiring.
-    fn row_check<R: Kind>(&mut self, pair: &Pair<R>, pins: &Pins) -> Result<(), Failure> {
+    fn row_check<R: Kind>(&mut self, pair: &Pair<R>, pins: &Pins) -> Result<(), Failure>
+        ensures counts { counts self.new.tally ≡ counts self.old.tally }
+        ensures differences { self.old.tally.differences ≤ self.new.tally.differences }
+        ensures wirings { self.new.wirings ≡ self.old.wirings }
+    {
         let wiring = Wiring::new(pair.card.inputs, pins.as_slice())?;
         let checked = agrees(pair.card, pair.part, &wiring);
         let due = pair.agrees(pins);
@@ -245,7 +282,11 @@ impl<'a> Comparison<'a> {
         Ok(())
     }
 
-    fn row_checks<R: Kind>(&mut self, pair: &Pair<R>) -> Result<(), Failure> {
+    fn row_checks<R: Kind>(&mut self, pair: &Pair<R>) -> Result<(), Failure>
+        ensures counts { counts self.new.tally ≡ counts self.old.tally }
+        ensures differences { self.old.tally.differences ≤ self.new.tally.differences }
+        ensures wirings { self.new.wirings ≡ self.old.wirings }
+    {
         for pins in pair.wirings {
             self.row_check(pair, pins)?;
         }
@@ -253,7 +294,13 @@ impl<'a> Comparison<'a> {
     }
 
     // Compares everything that is asked of a card and a part.
-    pub fn pair<R: Kind>(&mut self, card: &Table<R>, part: &Table<R>) -> Result<(), Failure> {
+    pub fn pair<R: Kind>(&mut self, card: &Table<R>, part: &Table<R>) -> Result<(), Failure>
+        ensures pairs { OnOk result (self.new.tally.pairs ≡ at_most (self.old.tally.pairs + 1)) }
+        ensures found { OnOk result (card.now.inputs ≤ 6 → PairCounted (Agrees (codes_of R.doing card.now.rows.now) (codes_of R.doing part.now.rows.now)) card.now.inputs self.old.tally self.new.tally) }
+        ensures others { (self.new.tally.fits ≡ self.old.tally.fits) × (self.new.tally.refused ≡ self.old.tally.refused) × (self.new.tally.classes ≡ self.old.tally.classes) }
+        ensures differences { self.old.tally.differences ≤ self.new.tally.differences }
+        ensures wirings { self.new.wirings ≡ self.old.wirings }
+    {
         let pair = Pair::of(self.wirings, card, part);
         self.row_checks(&pair)?;
         self.pile("no signature", &Blank, &pair)?;
@@ -267,7 +314,11 @@ impl<'a> Comparison<'a> {
     }
 
     // Compares the classes of a table's inputs.
-    pub fn classes<R: Kind>(&mut self, table: &Table<R>) -> Result<(), Failure> {
+    pub fn classes<R: Kind>(&mut self, table: &Table<R>) -> Result<(), Failure>
+        ensures counts { counts self.new.tally ≡ record (counts self.old.tally) { classes = at_most (self.old.tally.classes + 1) } }
+        ensures differences { self.old.tally.differences ≤ self.new.tally.differences }
+        ensures wirings { self.new.wirings ≡ self.old.wirings }
+    {
         self.tally.classes();
         let due = due_classes(table);
         let mut written = [0; 10];

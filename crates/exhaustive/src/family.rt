@@ -1,4 +1,4 @@
-ghost use Rattle.std.specs.Prelude.{◌≡◌, ◌<◌, ◌≤◌};
+ghost use Rattle.std.specs.Prelude.{◌≡◌, ℕ, ◌+◌, ◌*◌, ◌^◌, ◌<◌, ◌≤◌, All, IfOk, OnOk, length, min, vec_len};
 
 use crate::comparison::Comparison;
 use crate::drawing::{Relation, Style};
@@ -9,6 +9,24 @@ use crate::stock::{Stock, shuffle};
 use draws::Random;
 use std::alloc::{AllocError, Global};
 
+// Puts down a table with each of the few rows in this place.
+fn push_filled<R: Kind>(
+    longer: &mut Vec<SmallTable<R>>,
+    table: &SmallTable<R>,
+    row: usize,
+) -> Result<(), AllocError>
+    requires { row < 64 }
+    ensures many { OnOk result (vec_len longer.new ≡ vec_len longer.old + R.few) }
+    ensures inputs { OnOk result ((n : ℕ) → table.now.inputs ≡ n → All (λ t. t.inputs ≡ n) longer.old.items → All (λ t. t.inputs ≡ n) longer.new.items) }
+{
+    for k in 0..R::few() {
+        let mut rows = table.rows;
+        rows[row] = R::numbered(k);
+        longer.push(table.with_rows(rows))?;
+    }
+    Ok(())
+}
+
 // Each table with each of the few rows in this place.
 fn filled<R: Kind>(
     heap: Global,
@@ -16,20 +34,21 @@ fn filled<R: Kind>(
     row: usize,
 ) -> Result<Vec<SmallTable<R>>, AllocError>
     requires { row < 64 }
+    ensures many { IfOk result (λ longer. vec_len longer ≡ length tables.now * R.few) }
+    ensures inputs { (n : ℕ) → All (λ t. t.inputs ≡ n) tables.now → IfOk result (λ longer. All (λ t. t.inputs ≡ n) longer.items) }
 {
     let mut longer = Vec::new(heap);
     for table in tables {
-        for k in 0..R::FEW {
-            let mut rows = table.rows;
-            rows[row] = R::numbered(k);
-            longer.push(table.with_rows(rows))?;
-        }
+        push_filled(&mut longer, table, row)?;
     }
     Ok(longer)
 }
 
 // Every table of so many inputs, at most six, that is made of few rows.
-pub fn every_table<R: Kind>(heap: Global, inputs: usize) -> Result<Vec<SmallTable<R>>, AllocError> {
+pub fn every_table<R: Kind>(heap: Global, inputs: usize) -> Result<Vec<SmallTable<R>>, AllocError>
+    ensures many { inputs ≤ 6 → IfOk result (λ tables. vec_len tables ≡ R.few ^ (2 ^ inputs)) }
+    ensures inputs { IfOk result (λ tables. All (λ table. table.inputs ≡ min inputs 6) tables.items) }
+{
     let blank = SmallTable::blank(inputs.min(MOST_INPUTS));
     let mut tables = Vec::new(heap);
     tables.push(blank)?;

@@ -1,4 +1,4 @@
-ghost use Rattle.std.specs.Prelude.{◌≡◌, ◌≢◌, ◌≤◌, IfSome};
+ghost use Rattle.std.specs.Prelude.{◌≡◌, ◌≢◌, ℕ, ◌≤◌, IfSome};
 ghost use Rattle.exhaustive.specs.Codes.{code_of};
 ghost use Rattle.exhaustive.specs.declared.action.Action.{Action};
 ghost use Rattle.exhaustive.specs.Doings.{on_off_action, drive_action, indistinct_action};
@@ -11,8 +11,11 @@ use rows::{Direction, Drive, Indistinct, OnOff, RowKind};
 pub trait Kind: RowKind {
     ghost doing: { Self → Action };
 
+    ghost few: { ℕ };
+
     // How many rows there are that all small tables are made of.
-    const FEW: usize;
+    fn few() -> usize
+        ensures { result ≡ few };
 
     // One of these rows.
     fn numbered(k: usize) -> Self;
@@ -34,7 +37,11 @@ pub trait Kind: RowKind {
 impl Kind for OnOff {
     ghost doing = { on_off_action };
 
-    const FEW: usize = 2;
+    ghost few = { 2 };
+
+    fn few() -> usize {
+        2
+    }
 
     fn numbered(k: usize) -> OnOff {
         if k == 0 { OnOff::Off } else { OnOff::On }
@@ -105,7 +112,11 @@ fn next_hold(hold: u8) -> u8
 impl Kind for Drive {
     ghost doing = { drive_action };
 
-    const FEW: usize = 4;
+    ghost few = { 4 };
+
+    fn few() -> usize {
+        4
+    }
 
     fn numbered(k: usize) -> Drive {
         match k {
@@ -160,7 +171,11 @@ impl Kind for Drive {
 impl Kind for Indistinct {
     ghost doing = { indistinct_action };
 
-    const FEW: usize = 2;
+    ghost few = { 2 };
+
+    fn few() -> usize {
+        2
+    }
 
     fn numbered(k: usize) -> Indistinct {
         Indistinct(if k == 0 { 0 } else { 255 })

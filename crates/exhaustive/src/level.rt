@@ -31,7 +31,11 @@ impl RowKind for Level {
 impl Kind for Level {
     ghost doing = { λ row. AtLevel row.0 };
 
-    const FEW: usize = 3;
+    ghost few = { 3 };
+
+    fn few() -> usize {
+        3
+    }
 
     fn numbered(k: usize) -> Level {
         Level((k % 4) as u8)

@@ -1,6 +1,7 @@
-ghost use Rattle.std.specs.Prelude.{◌≡◌, ◌≤◌, ◌<◌, IfSome, IsPermutation, length, vec_len};
+ghost use Rattle.std.specs.Prelude.{◌≡◌, ◌≤◌, ◌<◌, Bool, IfSome, IsPermutation, OnOk, is_some, length, vec_len};
 ghost use Rattle.std.specs.Fn.{iterate};
 ghost use Rattle.draws.specs.Draws.{next};
+ghost use Rattle.exhaustive.specs.Tallies.{counts, fitted};
 
 use crate::comparison::{Comparison, Pair};
 use crate::failure::Failure;
@@ -236,7 +237,11 @@ impl Comparison<'_> {
         stock: &Stock<R>,
         card: &Table<R>,
         due: Option<&Standing<R>>,
-    ) -> Result<(), Failure> {
+    ) -> Result<(), Failure>
+        ensures counts { counts self.new.tally ≡ counts (fitted (is_some due.entry) 1 self.old.tally) }
+        ensures differences { self.old.tally.differences ≤ self.new.tally.differences }
+        ensures wirings { self.new.wirings ≡ self.old.wirings }
+    {
         self.tally.fit(due.is_some());
         let fit = match stock
             .shelf
@@ -258,7 +263,12 @@ impl Comparison<'_> {
     }
 
     // Compares what a shelf fits to a card.
-    pub fn fit<R: Kind>(&mut self, stock: &Stock<R>, card: &Table<R>) -> Result<(), Failure> {
+    pub fn fit<R: Kind>(&mut self, stock: &Stock<R>, card: &Table<R>) -> Result<(), Failure>
+        ensures counts { OnOk result ((found : Bool) × (counts self.new.tally ≡ counts (fitted found 6 self.old.tally))) }
+        ensures others { (self.new.tally.pairs ≡ self.old.tally.pairs) × (self.new.tally.tried ≡ self.old.tally.tried) × (self.new.tally.classes ≡ self.old.tally.classes) }
+        ensures differences { self.old.tally.differences ≤ self.new.tally.differences }
+        ensures wirings { self.new.wirings ≡ self.old.wirings }
+    {
         let due = stock.due(self.wirings, card);
         self.fit_by("no signature", &Blank, stock, card, due)?;
         self.fit_by("cofactor", &Cofactor, stock, card, due)?;

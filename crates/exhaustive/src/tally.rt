@@ -1,4 +1,4 @@
-ghost use Rattle.std.specs.Prelude.{◌≡◌, ◌+◌, ◌&&◌, ◌==◌, if◌then◌else◌, nat_lt};
+ghost use Rattle.std.specs.Prelude.{◌≡◌, ◌+◌, ◌≤◌, ◌&&◌, ◌==◌, if◌then◌else◌, nat_lt};
 ghost use Rattle.exhaustive.specs.Counts.{at_most};
 
 // What was compared.
@@ -71,7 +71,8 @@ impl Tally {
     }
 
     pub fn differ(&mut self)
-        ensures { self.new ≡ record self.old { differences = at_most (self.old.differences + 1) } }
+        ensures one { self.new ≡ record self.old { differences = at_most (self.old.differences + 1) } }
+        ensures rises { self.old.differences ≤ self.new.differences }
     {
         self.differences = self.differences.saturating_add(1);
     }

@@ -1,7 +1,9 @@
 use Rattle.std.proofs.Common.{◌≡◌, sym, ◌∙◌}
 use Rattle.exhaustive.specs.Agreement.{Agrees}
 use Rattle.exhaustive.specs.Codes.{codes_of}
-use Rattle.exhaustive.proofs.Firsts.{counted_of_all, first_of_all}
+use Rattle.exhaustive.specs.Trying.{pins_of}
+use Rattle.exhaustive.proofs.Counting.{counted-map}
+use Rattle.exhaustive.proofs.Firsts.{first_of_all}
 use Rattle.exhaustive.proofs.comparison.Pair.of.Goals as goal
 
 pub returns-clause-first : goal.returns-clause-first
@@ -14,4 +16,4 @@ pub returns-clause-agreeing : goal.returns-clause-agreeing
 returns-clause-agreeing g c =
     let cards : c.as_slice-cards.result.now ≡ codes_of g.R.Kind.doing c.args.card.now.rows.now = c.as_slice-cards.ensures ∙ c.of-card_codes.ensures in
     let parts : c.as_slice-parts.result.now ≡ codes_of g.R.Kind.doing c.args.part.now.rows.now = c.as_slice-parts.ensures ∙ c.of-part_codes.ensures in
-    λ few. rw (sym cards, sym parts) (counted_of_all (Agrees c.as_slice-cards.result.now c.as_slice-parts.result.now) c.args.card.now.inputs c.of-wirings.result.now c.count_agreeing-agreeing.result (c.of-wirings.ensures.every few) c.count_agreeing-agreeing.ensures)
+    rw (sym cards, sym parts) (counted-map (Agrees c.as_slice-cards.result.now c.as_slice-parts.result.now) pins_of c.of-wirings.result.now c.count_agreeing-agreeing.result c.count_agreeing-agreeing.ensures)
