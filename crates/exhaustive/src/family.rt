@@ -1,4 +1,5 @@
-ghost use Rattle.std.specs.Prelude.{◌≡◌, ℕ, ◌+◌, ◌*◌, ◌^◌, ◌<◌, ◌≤◌, All, IfOk, OnOk, length, min, vec_len};
+ghost use Rattle.std.specs.Prelude.{◌≡◌, ℕ, ◌+◌, ◌*◌, ◌/◌, ◌^◌, ◌<◌, ◌≤◌, All, IfOk, IsPermutation, OnOk, length, min, vec_len};
+ghost use Rattle.exhaustive.specs.Counts.{Rose};
 
 use crate::comparison::Comparison;
 use crate::drawing::{Relation, Style};
@@ -8,6 +9,7 @@ use crate::small_table::{MOST_INPUTS, SmallTable};
 use crate::stock::{Stock, shuffle};
 use draws::Random;
 use std::alloc::{AllocError, Global};
+use tables::Table;
 
 // Puts down a table with each of the few rows in this place.
 fn push_filled<R: Kind>(
@@ -58,17 +60,38 @@ pub fn every_table<R: Kind>(heap: Global, inputs: usize) -> Result<Vec<SmallTabl
     Ok(tables)
 }
 
+// Compares each of these parts with a card.
+fn compare_parts<R: Kind>(
+    comparison: &mut Comparison,
+    card: &Table<R>,
+    parts: &[SmallTable<R>],
+) -> Result<(), Failure>
+    ensures pairs { OnOk result (Rose comparison.old.tally.pairs (length parts.now) comparison.new.tally.pairs) }
+    ensures others { (comparison.new.tally.fits ≡ comparison.old.tally.fits) × (comparison.new.tally.refused ≡ comparison.old.tally.refused) × (comparison.new.tally.classes ≡ comparison.old.tally.classes) }
+    ensures differences { comparison.old.tally.differences ≤ comparison.new.tally.differences }
+    ensures wirings { comparison.new.wirings ≡ comparison.old.wirings }
+{
+    for part in parts {
+        comparison.pair(card, &part.table())?;
+    }
+    Ok(())
+}
+
 // Compares all pairs of these tables.
 pub fn compare_pairs<R: Kind>(
     comparison: &mut Comparison,
     tables: &[SmallTable<R>],
-) -> Result<(), Failure> {
+) -> Result<(), Failure>
+    ensures pairs { OnOk result (Rose comparison.old.tally.pairs (length tables.now * length tables.now) comparison.new.tally.pairs) }
+    ensures classes { OnOk result (Rose comparison.old.tally.classes (length tables.now) comparison.new.tally.classes) }
+    ensures others { (comparison.new.tally.fits ≡ comparison.old.tally.fits) × (comparison.new.tally.refused ≡ comparison.old.tally.refused) }
+    ensures differences { comparison.old.tally.differences ≤ comparison.new.tally.differences }
+    ensures wirings { comparison.new.wirings ≡ comparison.old.wirings }
+{
     for card in tables {
         let card = card.table();
         comparison.classes(&card)?;
-        for part in tables {
-            comparison.pair(&card, &part.table())?;
-        }
+        compare_parts(comparison, &card, tables)?;
     }
     Ok(())
 }
@@ -82,7 +105,12 @@ fn compare_shelf<R: Kind>(
     parts: &[SmallTable<R>],
     cards: &[SmallTable<R>],
     random: &mut Random,
-) -> Result<(), Failure> {
+) -> Result<(), Failure>
+    ensures fits { OnOk result (0 < length parts.now → Rose comparison.old.tally.fits (length cards.now * 6) comparison.new.tally.fits) }
+    ensures others { (comparison.new.tally.pairs ≡ comparison.old.tally.pairs) × (comparison.new.tally.tried ≡ comparison.old.tally.tried) × (comparison.new.tally.classes ≡ comparison.old.tally.classes) }
+    ensures differences { comparison.old.tally.differences ≤ comparison.new.tally.differences }
+    ensures wirings { comparison.new.wirings ≡ comparison.old.wirings }
+{
     let Some(passing) = parts.first() else {
         return Ok(());
     };
@@ -98,7 +126,13 @@ pub fn compare_shelves<R: Kind>(
     comparison: &mut Comparison,
     tables: &mut [SmallTable<R>],
     random: &mut Random,
-) -> Result<(), Failure> {
+) -> Result<(), Failure>
+    ensures tables { IsPermutation tables.old tables.new }
+    ensures fits { OnOk result (Rose comparison.old.tally.fits ((length tables.old + 59) / 60 * (length tables.old * 6)) comparison.new.tally.fits) }
+    ensures others { (comparison.new.tally.pairs ≡ comparison.old.tally.pairs) × (comparison.new.tally.tried ≡ comparison.old.tally.tried) × (comparison.new.tally.classes ≡ comparison.old.tally.classes) }
+    ensures differences { comparison.old.tally.differences ≤ comparison.new.tally.differences }
+    ensures wirings { comparison.new.wirings ≡ comparison.old.wirings }
+{
     shuffle(tables, random);
     for parts in tables.chunks(SHELF_PARTS) {
         compare_shelf(comparison, parts, tables, random)?;
@@ -123,7 +157,13 @@ fn drawn_parts<R: Kind>(
     card: &SmallTable<R>,
     style: Style,
     random: &mut Random,
-) -> Result<Vec<SmallTable<R>>, Failure> {
+) -> Result<Vec<SmallTable<R>>, Failure>
+    ensures pairs { OnOk result (Rose comparison.old.tally.pairs 8 comparison.new.tally.pairs) }
+    ensures classes { OnOk result (Rose comparison.old.tally.classes 8 comparison.new.tally.classes) }
+    ensures others { (comparison.new.tally.fits ≡ comparison.old.tally.fits) × (comparison.new.tally.refused ≡ comparison.old.tally.refused) }
+    ensures differences { comparison.old.tally.differences ≤ comparison.new.tally.differences }
+    ensures wirings { comparison.new.wirings ≡ comparison.old.wirings }
+{
     let mut parts = Vec::new(comparison.heap);
     parts.push(style.card(card.inputs.saturating_sub(1), random))?;
     parts.push(style.card((card.inputs + 1).min(MOST_INPUTS), random))?;
@@ -142,7 +182,12 @@ fn compare_fit<R: Kind>(
     card: &SmallTable<R>,
     parts: &[SmallTable<R>],
     random: &mut Random,
-) -> Result<(), Failure> {
+) -> Result<(), Failure>
+    ensures fits { OnOk result (Rose comparison.old.tally.fits 6 comparison.new.tally.fits) }
+    ensures others { (comparison.new.tally.pairs ≡ comparison.old.tally.pairs) × (comparison.new.tally.tried ≡ comparison.old.tally.tried) × (comparison.new.tally.classes ≡ comparison.old.tally.classes) }
+    ensures differences { comparison.old.tally.differences ≤ comparison.new.tally.differences }
+    ensures wirings { comparison.new.wirings ≡ comparison.old.wirings }
+{
     let stock = Stock::of(comparison.heap, parts, card, random)?;
     comparison.fit(&stock, &card.table())
 }
@@ -157,6 +202,11 @@ fn compare_card<R: Kind>(
     random: &mut Random,
 ) -> Result<(), Failure>
     requires { inputs ≤ 6 }
+    ensures pairs { OnOk result (Rose comparison.old.tally.pairs 8 comparison.new.tally.pairs) }
+    ensures classes { OnOk result (Rose comparison.old.tally.classes 9 comparison.new.tally.classes) }
+    ensures fits { OnOk result (Rose comparison.old.tally.fits 12 comparison.new.tally.fits) }
+    ensures differences { comparison.old.tally.differences ≤ comparison.new.tally.differences }
+    ensures wirings { comparison.new.wirings ≡ comparison.old.wirings }
 {
     let card = style.card(inputs, random);
     comparison.classes(&card.table())?;
@@ -176,6 +226,11 @@ pub fn compare_drawn<R: Kind>(
     random: &mut Random,
 ) -> Result<(), Failure>
     requires { inputs ≤ 6 }
+    ensures pairs { OnOk result (Rose comparison.old.tally.pairs (cards * 8) comparison.new.tally.pairs) }
+    ensures classes { OnOk result (Rose comparison.old.tally.classes (cards * 9) comparison.new.tally.classes) }
+    ensures fits { OnOk result (Rose comparison.old.tally.fits (cards * 12) comparison.new.tally.fits) }
+    ensures differences { comparison.old.tally.differences ≤ comparison.new.tally.differences }
+    ensures wirings { comparison.new.wirings ≡ comparison.old.wirings }
 {
     for _ in 0..cards {
         compare_card(comparison, style, inputs, parts, random)?;
