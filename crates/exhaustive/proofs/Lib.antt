@@ -3,3 +3,4 @@ pub mod Listing
 pub mod Complete
 pub mod Counting
 pub mod Firsts
+pub mod Numbers

@@ -1,4 +1,4 @@
-ghost use Rattle.std.specs.Prelude.{◌≡◌, ◌≤◌, ◌<◌, Bool, IfSome, IsPermutation, OnOk, is_some, length, vec_len};
+ghost use Rattle.std.specs.Prelude.{◌≡◌, ◌==◌, ◌+◌, ◌++◌, ◌∷◌, [], ◌≤◌, ◌<◌, Bool, Contains, IfOk, map, position, IfSome, IsPermutation, OnOk, is_some, length, vec_len};
 ghost use Rattle.std.specs.Fn.{iterate};
 ghost use Rattle.draws.specs.Draws.{next};
 ghost use Rattle.exhaustive.specs.Tallies.{counts, fitted};
@@ -56,7 +56,9 @@ fn shuffled_numbers(heap: Global, count: u32, random: &mut Random) -> Result<Vec
 }
 
 impl<'a, R: Kind> Stock<'a, R> {
-    fn open(heap: Global, slots: usize) -> Result<Stock<'a, R>, Failure> {
+    fn open(heap: Global, slots: usize) -> Result<Stock<'a, R>, Failure>
+        ensures { IfOk result (λ stock. vec_len stock.standing ≡ 0) }
+    {
         let shelf = Shelf::open(slots)?;
         let memory = vec![in heap; R::numbered(0); shelf.slots() * 1024]?;
         Ok(Stock {
@@ -66,7 +68,10 @@ impl<'a, R: Kind> Stock<'a, R> {
         })
     }
 
-    fn enter(&mut self, number: u32, part: &'a SmallTable<R>) -> Result<(), Failure> {
+    fn enter(&mut self, number: u32, part: &'a SmallTable<R>) -> Result<(), Failure>
+        ensures many { OnOk result (vec_len self.new.standing ≡ vec_len self.old.standing + 1) }
+        ensures numbers { OnOk result (map (λ part. part.number) self.new.standing.items ≡ map (λ part. part.number) self.old.standing.items ++ number ∷ []) }
+    {
         let table = part.table();
         let memory = self.memory.as_mut_slice();
         self.shelf.enter(memory, number, table.inputs, table.rows)?;
@@ -76,17 +81,15 @@ impl<'a, R: Kind> Stock<'a, R> {
 
     // Where the part of this number is in the account.
     fn place_of(&self, number: u32) -> Option<usize>
-        ensures { IfSome result (λ place. place < vec_len self.now.standing) }
+        ensures first { result ≡ position (λ part. part.number == number) self.now.standing.items }
+        ensures within { IfSome result (λ place. place < vec_len self.now.standing) }
     {
-        for place in 0..self.standing.len() {
-            if self.standing[place].number == number {
-                return Some(place);
-            }
-        }
-        None
+        self.standing.iter().position(|part| part.number == number)
     }
 
-    fn drop_part(&mut self, number: u32) -> Result<(), Failure> {
+    fn drop_part(&mut self, number: u32) -> Result<(), Failure>
+        ensures { OnOk result (Contains (map (λ part. part.number) self.old.standing.items) number → vec_len self.new.standing + 1 ≡ vec_len self.old.standing) }
+    {
         self.shelf.drop_part(self.memory.as_slice(), number)?;
         if let Some(place) = self.place_of(number) {
             self.standing.swap_remove(place);
@@ -102,7 +105,9 @@ impl<'a, R: Kind> Stock<'a, R> {
         numbers: (u32, u32),
         table: &'a SmallTable<R>,
         draw: usize,
-    ) -> Result<(), Failure> {
+    ) -> Result<(), Failure>
+        ensures { OnOk result (vec_len self.new.standing ≡ vec_len self.old.standing + 1) }
+    {
         let (number, other) = numbers;
         match draw {
             0 => {
@@ -125,7 +130,9 @@ impl<'a, R: Kind> Stock<'a, R> {
         parts: &'a [SmallTable<R>],
         passing: &'a SmallTable<R>,
         random: &mut Random,
-    ) -> Result<Stock<'a, R>, Failure> {
+    ) -> Result<Stock<'a, R>, Failure>
+        ensures { IfOk result (λ stock. vec_len stock.standing ≡ length parts.now) }
+    {
         let mut stock = Stock::open(heap, parts.len().saturating_add(1))?;
         let mut numbers = shuffled_numbers(heap, 128, random)?;
         for table in parts {

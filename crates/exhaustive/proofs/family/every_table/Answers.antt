@@ -1,4 +1,4 @@
-use Rattle.std.proofs.Common.{◌≡◌, ◌*◌, ap, sym, ◌∙◌}
+use Rattle.std.proofs.Common.{◌*◌, ap, sym, ◌∙◌}
 use Rattle.std.proofs.lemmas.Grind.{pow_more}
 use Rattle.exhaustive.proofs.family.every_table.Goals as goal
 

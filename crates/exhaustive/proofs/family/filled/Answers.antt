@@ -1,4 +1,4 @@
-use Rattle.std.proofs.Common.{◌≡◌, ℕ, ap, ◌∙◌, arith}
+use Rattle.std.proofs.Common.{ap, ◌∙◌, arith}
 use Rattle.exhaustive.proofs.family.filled.Goals as goal
 
 pub loop-table-preserved : goal.loop-table-preserved
