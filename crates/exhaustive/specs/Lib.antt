@@ -1,9 +1,6 @@
 pub mod Codes
 pub mod Doings
-pub mod Agreement
 pub mod Counts
 pub mod Texts
-pub mod Trying
-pub mod Wirings
 pub mod Requests
 pub mod Tallies

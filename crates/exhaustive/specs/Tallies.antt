@@ -1,8 +1,8 @@
 -- How a tally moves.
 use Rattle.std.specs.Prelude.{◌≡◌, ◌==◌, Bool, ℕ, ◌+◌, if◌then◌else◌, List, length}
 use Rattle.exhaustive.specs.Counts.{at_most}
-use Rattle.exhaustive.specs.Trying.{Counted}
-use Rattle.exhaustive.specs.Wirings.{AreWirings}
+use Rattle.every_wiring.specs.Trying.{Counted}
+use Rattle.every_wiring.specs.Wirings.{AreWirings}
 use Rattle.exhaustive.specs.declared.tally.Tally.{Tally}
 
 -- what is counted but for the differences

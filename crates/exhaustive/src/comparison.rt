@@ -1,19 +1,18 @@
-ghost use Rattle.std.specs.Prelude.{◌≡◌, ◌+◌, ◌++◌, ◌∷◌, [], ◌≤◌, if◌then◌else◌, map, nat_lt, vec_len, OnOk};
-ghost use Rattle.exhaustive.specs.Agreement.{Agrees};
+ghost use Rattle.std.specs.Prelude.{◌≡◌, ℕ, ◌+◌, ◌++◌, ◌∷◌, [], ◌<◌, ◌≤◌, if◌then◌else◌, map, nat_lt, vec_len, OnOk, slice_index};
+ghost use Rattle.every_wiring.specs.Agreement.{Agrees};
+ghost use Rattle.every_wiring.specs.Exchanging.{IsLowest};
 ghost use Rattle.exhaustive.specs.Codes.{codes_of};
 ghost use Rattle.exhaustive.specs.Counts.{at_most};
 ghost use Rattle.exhaustive.specs.Tallies.{counts, PairCounted};
-ghost use Rattle.exhaustive.specs.Trying.{pins_of, Counted, FirstOfAll};
-ghost use Rattle.exhaustive.specs.Wirings.{AreWirings};
+ghost use Rattle.every_wiring.specs.Trying.{pins_of, Counted, FirstOfAll};
+ghost use Rattle.every_wiring.specs.Wirings.{AreWirings};
 
-use crate::exhaustive::{agree, count_agreeing, first_agreeing, lowest_exchangeable};
 use crate::failure::Failure;
 use crate::kind::Kind;
-use crate::pins::Pins;
 use crate::printing::{PinList, RowList};
 use crate::small_table::Codes;
 use crate::tally::Tally;
-use crate::wirings::Wirings;
+use every_wiring::{Pins, Wirings, agree, count_agreeing, first_agreeing, lowest_exchangeable};
 use fitting::{spread_by, strikes_by, struck_by, wiring_by};
 use matching::Strikes;
 use signatures::{Blank, Breakup, Cofactor, Neighbour, Refined, STANDARD_PILE, Signature};
@@ -117,11 +116,13 @@ fn struck_pairs(strikes: &Strikes, inputs: usize) -> usize {
 }
 
 // The classes of a table's inputs, worked out by exchanging two inputs in every row.
-fn due_classes<R: Kind>(table: &Table<R>) -> [u8; 10] {
+fn due_classes<R: Kind>(table: &Table<R>) -> [u8; 10]
+    ensures { (input : ℕ) → input < table.now.inputs → IsLowest (codes_of R.doing table.now.rows.now) input (slice_index result input) }
+{
     let codes = Codes::of(table.rows);
     let mut due = [255; 10];
-    for (input, class) in due.iter_mut().enumerate().take(table.inputs) {
-        *class = (lowest_exchangeable(codes.as_slice(), input) % 10) as u8;
+    for input in 0..table.inputs {
+        due[input] = lowest_exchangeable(codes.as_slice(), input) as u8;
     }
     due
 }

@@ -1,9 +1,9 @@
 ghost use Rattle.std.specs.Prelude.{◌≡◌, ◌+◌, ◌<◌, ◌≤◌, length, IfSome};
 
-use crate::exhaustive::carried;
 use crate::kind::Kind;
-use crate::small_table::{SmallTable, worth};
+use crate::small_table::SmallTable;
 use draws::Random;
+use every_wiring::{carried, worth};
 use std::fmt;
 
 // Which rows of a card do the same.

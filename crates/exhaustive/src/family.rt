@@ -5,9 +5,10 @@ use crate::comparison::Comparison;
 use crate::drawing::{Relation, Style};
 use crate::failure::Failure;
 use crate::kind::Kind;
-use crate::small_table::{MOST_INPUTS, SmallTable};
+use crate::small_table::SmallTable;
 use crate::stock::{Stock, shuffle};
 use draws::Random;
+use every_wiring::MOST_INPUTS;
 use std::alloc::{AllocError, Global};
 use tables::Table;
 

@@ -5,22 +5,20 @@ ghost use Rattle.std.specs.Prelude.{◌≡◌, ◌≤◌};
 mod action;
 mod comparison;
 mod drawing;
-mod exhaustive;
 mod failure;
 mod family;
 mod kind;
 mod level;
-mod pins;
 mod printing;
 mod request;
 mod small_table;
 mod stock;
 mod tally;
-mod wirings;
 
 use comparison::Comparison;
 use drawing::Style;
 use draws::Random;
+use every_wiring::Wirings;
 use failure::Failure;
 use family::{compare_drawn, compare_pairs, compare_shelves, every_table};
 use kind::Kind;
@@ -33,7 +31,6 @@ use small_table::SmallTable;
 use std::env;
 use std::process::ExitCode;
 use tally::Tally;
-use wirings::Wirings;
 
 // What is compared, and what came of it so far.
 #[derive(Drop)]

@@ -1,31 +1,11 @@
-ghost use Rattle.exhaustive.specs.Agreement.{worth_of};
+ghost use Rattle.every_wiring.specs.Agreement.{worth_of};
 ghost use Rattle.exhaustive.specs.Codes.{codes_of};
 ghost use Rattle.std.specs.Prelude.{◌≡◌, ◌≤◌, ◌^◌, length, take, ⊤};
 
 use crate::kind::Kind;
+use every_wiring::worth;
 use std::alloc::AllocError;
 use tables::Table;
-
-// At most so many inputs are compared.
-pub const MOST_INPUTS: usize = 6;
-
-// What the bit of an input is worth in a row, and how many rows a table of so many inputs has: 2^k, and 64 past the
-// sixth.
-pub fn worth(k: usize) -> usize
-    ensures some { 1 ≤ result }
-    ensures most { result ≤ 64 }
-    ensures value { result ≡ worth_of k }
-{
-    match k {
-        0 => 1,
-        1 => 2,
-        2 => 4,
-        3 => 8,
-        4 => 16,
-        5 => 32,
-        _ => 64,
-    }
-}
 
 // A table of at most six inputs: its rows are the first 2^n.
 pub struct SmallTable<R> {
@@ -121,7 +101,8 @@ impl Codes {
     }
 
     pub fn as_slice(&self) -> &[u16]
-        ensures { result.now ≡ take self.now.size self.now.codes }
+        ensures codes { result.now ≡ take self.now.size self.now.codes }
+        ensures few { length result.now ≤ 64 }
     {
         &self.codes[..self.size]
     }

@@ -1,0 +1,5 @@
+pub mod InOrder
+pub mod Listing
+pub mod Complete
+pub mod Counting
+pub mod Firsts

@@ -1,0 +1,4 @@
+pub mod Agreement
+pub mod Trying
+pub mod Wirings
+pub mod Exchanging

@@ -1,8 +1,0 @@
-use Rattle.std.proofs.Common.{◌≡◌, ℕ, ◌<◌}
-use Rattle.std.specs.Prelude.{slice_get}
-use Rattle.exhaustive.specs.Agreement.{carried_row}
-use Rattle.exhaustive.proofs.exhaustive.agree.Given as goal
-
-abbrev pub invariant-loop-row : goal.invariant-loop-row
-invariant-loop-row l =
-    (r : ℕ) → r < l.row → slice_get l.part (carried_row l.pins r) ≡ slice_get l.card r

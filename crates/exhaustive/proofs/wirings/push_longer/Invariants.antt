@@ -1,8 +1,0 @@
-use Rattle.std.proofs.Common.{◌≡◌, ◌++◌, map}
-use Rattle.exhaustive.specs.Trying.{pins_of}
-use Rattle.exhaustive.specs.Wirings.{longer_to}
-use Rattle.exhaustive.proofs.wirings.push_longer.Given as goal
-
-abbrev pub invariant-loop-pin : goal.invariant-loop-pin
-invariant-loop-pin l =
-    map pins_of l.longer.items ≡ map pins_of l.initial.longer.items ++ longer_to (pins_of l.pins) l.pin-counter
