@@ -17,7 +17,7 @@ use base::{Group, groups};
 use damage::{Change, changes};
 use draws::Random;
 use failure::Failure;
-use printing::{show_difference, show_head, show_row};
+use printing::{HEAD, Row};
 use programs::ended;
 use request::{Reach, Request, USAGE};
 use std::env;
@@ -38,9 +38,14 @@ fn feed_group(
     for base in group.lines.iter() {
         trial.feed_base(base, changes, random, twice)?;
     }
-    show_row(rt, group.title, group.lines.len(), &trial.tally)?;
+    let row = Row {
+        title: group.title,
+        lines: group.lines.len(),
+        tally: &trial.tally,
+    };
+    println!(rt; "{row}")?;
     for difference in trial.differences.iter() {
-        show_difference(rt, difference)?;
+        println!(rt; "{difference}")?;
     }
     Ok(trial.tally)
 }
@@ -50,13 +55,18 @@ fn feed(rt: &HostRuntime, reach: Reach) -> Result<(), Failure> {
     let mut random = Random(1);
     let mut lines = 0usize;
     let mut tally = Tally::EMPTY;
-    show_head(rt)?;
+    println!(rt; "{HEAD}")?;
     for group in &groups(rt.alloc(), reach)? {
         let fed = feed_group(rt, group, changes.as_slice(), &mut random, reach.twice())?;
         lines = lines.saturating_add(group.lines.len());
         tally.add(&fed);
     }
-    show_row(rt, "all", lines, &tally)?;
+    let all = Row {
+        title: "all",
+        lines,
+        tally: &tally,
+    };
+    println!(rt; "{all}")?;
     if tally.differences == 0 {
         Ok(())
     } else {

@@ -1,6 +1,6 @@
 use crate::tally::Tally;
 use crate::trial::Difference;
-use std::{fmt, io};
+use std::fmt;
 
 // Bytes as they stand between quotation marks.
 #[derive(Clone, Copy)]
@@ -19,36 +19,44 @@ impl fmt::Display for Escaped<'_> {
     }
 }
 
-pub fn show_head(rt: &HostRuntime) -> io::Result<()> {
-    println!(rt; "damaged lines that a shelf was fed, and how many it refused under each number")?;
-    println!(rt;
-        "{:<18}{:>6}{:>9}{:>8}{:>9}{:>6}{:>6}{:>6}{:>6}{:>6}{:>6}{:>6}{:>13}",
-        "form", "lines", "damaged", "granted", 1, 2, 3, 4, 7, 8, 9, 10, "differences"
-    )
+// What the columns of a row are.
+pub const HEAD: &str =
+    "damaged lines that a shelf was fed, and how many it refused under each number
+form               lines  damaged granted        1     2     3     4     7     8     9    10  differences";
+
+// What was counted of a group of lines.
+#[derive(Clone, Copy)]
+pub struct Row<'a> {
+    pub title: &'a str,
+    pub lines: usize,
+    pub tally: &'a Tally,
 }
 
-pub fn show_row(rt: &HostRuntime, title: &str, lines: usize, tally: &Tally) -> io::Result<()> {
-    let Tally {
-        fed,
-        granted,
-        refused,
-        differences,
-    } = tally;
-    print!(rt;
-        "{title:<18}{lines:>6}{fed:>9}{granted:>8}{:>9}",
-        refused[0]
-    )?;
-    for number in [2, 3, 4, 7, 8, 9, 10] {
-        print!(rt; "{:>6}", refused[number - 1])?;
+impl fmt::Display for Row<'_> {
+    fn fmt<W: fmt::Write>(&self, f: &mut fmt::Formatter<W>) -> fmt::Result {
+        let Row { title, lines, .. } = self;
+        let Tally {
+            fed,
+            granted,
+            refused,
+            differences,
+        } = self.tally;
+        let no_form = refused[0];
+        write!(f, "{title:<18}{lines:>6}{fed:>9}{granted:>8}{no_form:>9}")?;
+        for number in [2, 3, 4, 7, 8, 9, 10] {
+            write!(f, "{:>6}", refused[number - 1])?;
+        }
+        write!(f, "{differences:>13}")
     }
-    println!(rt; "{differences:>13}")
 }
 
-pub fn show_difference(rt: &HostRuntime, difference: &Difference) -> io::Result<()> {
-    println!(rt;
-        "\"{}\" is answered \"{}\", and {} is due",
-        Escaped(difference.line.as_slice()),
-        Escaped(difference.answer.as_slice()),
-        difference.due
-    )
+impl fmt::Display for Difference {
+    fn fmt<W: fmt::Write>(&self, f: &mut fmt::Formatter<W>) -> fmt::Result {
+        let (line, answer) = (
+            Escaped(self.line.as_slice()),
+            Escaped(self.answer.as_slice()),
+        );
+        let due = self.due;
+        write!(f, "\"{line}\" is answered \"{answer}\", and {due} is due")
+    }
 }

@@ -23,7 +23,7 @@ use failure::Failure;
 use family::{compare_drawn, compare_pairs, compare_shelves, every_table};
 use kind::Kind;
 use level::Level;
-use printing::{show_head, show_row};
+use printing::{HEAD, Row};
 use programs::ended;
 use request::{Request, USAGE};
 use rows::{Drive, Indistinct, OnOff};
@@ -45,11 +45,12 @@ struct Comparisons<'a> {
 impl Comparisons<'_> {
     // Prints what came of a family.
     fn close(&mut self, title: &str, comparison: &Comparison) -> Result<(), Failure> {
-        show_row(self.rt, title, &comparison.tally)?;
+        let tally = &comparison.tally;
+        println!(self.rt; "{}", Row { title, tally })?;
         for text in comparison.told.iter() {
             println!(self.rt; "{text}")?;
         }
-        self.total.add(&comparison.tally);
+        self.total.add(tally);
         Ok(())
     }
 
@@ -139,7 +140,7 @@ impl Comparisons<'_> {
 
     fn compare(&mut self) -> Result<(), Failure> {
         let heap = self.rt.alloc();
-        show_head(self.rt)?;
+        println!(self.rt; "{HEAD}")?;
         self.every::<OnOff>("on/off", true, Vec::new(heap))?;
         self.every::<Drive>("drives", false, Vec::new(heap))?;
         self.every::<Level>("levels", false, Vec::new(heap))?;
@@ -149,7 +150,9 @@ impl Comparisons<'_> {
             self.styles::<Drive>("drives", inputs, 50, &mut Vec::new(heap))?;
             self.styles::<Level>("levels", inputs, 25, &mut Vec::new(heap))?;
         }
-        show_row(self.rt, "all", &self.total)?;
+        let title = "all";
+        let tally = &self.total;
+        println!(self.rt; "{}", Row { title, tally })?;
         if self.total.differences == 0 {
             Ok(())
         } else {

@@ -1,6 +1,6 @@
 use crate::kind::Kind;
 use crate::tally::Tally;
-use std::{fmt, io};
+use std::fmt;
 
 // The rows of a table, each by what it does.
 #[derive(Drop)]
@@ -37,35 +37,35 @@ impl fmt::Display for PinList<'_> {
     }
 }
 
-pub fn show_head(rt: &HostRuntime) -> io::Result<()> {
-    println!(rt; "what the library answers, compared with trying every wiring")?;
-    println!(rt;
-        "{:<34}{:>9}{:>11}{:>9}{:>9}{:>8}{:>9}{:>8}{:>9}{:>13}",
-        "tables",
-        "pairs",
-        "wirings",
-        "agree",
-        "none",
-        "open",
-        "fits",
-        "no 10",
-        "classes",
-        "differences"
-    )
+// What the columns of a row are.
+pub const HEAD: &str = "what the library answers, compared with trying every wiring
+tables                                pairs    wirings    agree     none    open     fits   no 10  classes  differences";
+
+// What was counted under a title.
+#[derive(Clone, Copy)]
+pub struct Row<'a> {
+    pub title: &'a str,
+    pub tally: &'a Tally,
 }
 
-pub fn show_row(rt: &HostRuntime, title: &str, tally: &Tally) -> io::Result<()> {
-    let Tally {
-        pairs,
-        tried,
-        agree,
-        apart,
-        left_open,
-        fits,
-        refused,
-        classes,
-        differences,
-    } = tally;
-    print!(rt; "{title:<34}{pairs:>9}{tried:>11}{agree:>9}{apart:>9}{left_open:>8}")?;
-    println!(rt; "{fits:>9}{refused:>8}{classes:>9}{differences:>13}")
+impl fmt::Display for Row<'_> {
+    fn fmt<W: fmt::Write>(&self, f: &mut fmt::Formatter<W>) -> fmt::Result {
+        let title = self.title;
+        let Tally {
+            pairs,
+            tried,
+            agree,
+            apart,
+            left_open,
+            fits,
+            refused,
+            classes,
+            differences,
+        } = self.tally;
+        write!(
+            f,
+            "{title:<34}{pairs:>9}{tried:>11}{agree:>9}{apart:>9}{left_open:>8}"
+        )?;
+        write!(f, "{fits:>9}{refused:>8}{classes:>9}{differences:>13}")
+    }
 }
