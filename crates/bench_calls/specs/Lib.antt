@@ -1,3 +1,4 @@
+pub mod Failing
 pub mod Parts
 pub mod Requests
 pub mod Texts

@@ -1,3 +1,6 @@
+ghost use Rattle.std.specs.Prelude.{IfErr};
+ghost use Rattle.bench_calls.specs.Failing.{StopsWork};
+
 use crate::drawing::{Model, Relation};
 use crate::failure::Failure;
 use crate::job::{Job, What};
@@ -31,7 +34,9 @@ fn model(heap: Global, random: &mut Random, job: &Job, k: usize) -> Result<Model
     }
 }
 
-fn sum_of_lists(heap: Global, job: &Job) -> Result<u64, Failure> {
+fn sum_of_lists(heap: Global, job: &Job) -> Result<u64, Failure>
+    ensures { IfErr result StopsWork }
+{
     let mut random = Random(1);
     let mut cards = Vec::new(heap);
     for k in 0..job.parts {
@@ -68,7 +73,9 @@ fn sum_of_search(
     job: &Job,
     relation: Relation,
     signatures: bool,
-) -> Result<u64, Failure> {
+) -> Result<u64, Failure>
+    ensures { IfErr result StopsWork }
+{
     let mut random = Random(1);
     let mut pairs = Vec::new(heap);
     for k in 0..job.parts {
@@ -94,7 +101,9 @@ fn sum_of_search(
     Ok(sum)
 }
 
-fn sum_of_fits(heap: Global, job: &Job) -> Result<u64, Failure> {
+fn sum_of_fits(heap: Global, job: &Job) -> Result<u64, Failure>
+    ensures { IfErr result StopsWork }
+{
     let stock = Stock::drawn(heap, job.inputs, job.parts)?;
     let memory = stock.memory.as_slice();
     let mut sum = 0;
@@ -127,7 +136,9 @@ fn sum_with_answer(
     Ok(answer.fold(sum, |sum, &byte| summed(sum, u64::from(byte))))
 }
 
-fn sum_of_card_lines(heap: Global, job: &Job) -> Result<u64, Failure> {
+fn sum_of_card_lines(heap: Global, job: &Job) -> Result<u64, Failure>
+    ensures { IfErr result StopsWork }
+{
     let mut stock = Stock::drawn(heap, job.inputs, job.parts)?;
     let mut lines = Vec::new(heap);
     for card in &stock.cards {
@@ -142,7 +153,9 @@ fn sum_of_card_lines(heap: Global, job: &Job) -> Result<u64, Failure> {
 }
 
 // The highest number is dropped again before each line.
-fn sum_of_part_lines(heap: Global, job: &Job) -> Result<u64, Failure> {
+fn sum_of_part_lines(heap: Global, job: &Job) -> Result<u64, Failure>
+    ensures { IfErr result StopsWork }
+{
     let number = job.parts as u32;
     let mut stock = Stock::drawn(heap, job.inputs, job.parts)?;
     let mut lines = Vec::new(heap);
@@ -159,7 +172,9 @@ fn sum_of_part_lines(heap: Global, job: &Job) -> Result<u64, Failure> {
 }
 
 // The highest number is entered again before each line.
-fn sum_of_drop_lines(heap: Global, job: &Job) -> Result<u64, Failure> {
+fn sum_of_drop_lines(heap: Global, job: &Job) -> Result<u64, Failure>
+    ensures { IfErr result StopsWork }
+{
     let number = job.parts as u32;
     let mut stock = Stock::drawn(heap, job.inputs, job.parts)?;
     let line = drop_line(heap, number)?;
@@ -176,7 +191,9 @@ fn sum_of_drop_lines(heap: Global, job: &Job) -> Result<u64, Failure> {
 }
 
 // Does so often what is to be measured, and sums what came out, so that no work can be left out.
-pub fn sum_of(heap: Global, job: &Job) -> Result<u64, Failure> {
+pub fn sum_of(heap: Global, job: &Job) -> Result<u64, Failure>
+    ensures { IfErr result StopsWork }
+{
     match job.what {
         What::Lists => sum_of_lists(heap, job),
         What::Search(relation) => sum_of_search(heap, job, relation, true),

@@ -1,4 +1,5 @@
-ghost use Rattle.std.specs.Prelude.{◌≡◌, ◌≤◌, true, IfOk, OnOk};
+ghost use Rattle.std.specs.Prelude.{◌≡◌, ◌≤◌, true, IfErr, IfOk, OnOk};
+ghost use Rattle.bench_calls.specs.Failing.{StopsWork};
 ghost use Rattle.inventory.specs.Slots.{full};
 
 use crate::drawing::{Model, Relation};
@@ -26,7 +27,8 @@ fn fill(
     inputs: usize,
     models: &[Model; 2],
 ) -> Result<(), Failure>
-    ensures { OnOk result (full shelf.new.count shelf.new.slots ≡ true) }
+    ensures full { OnOk result (full shelf.new.count shelf.new.slots ≡ true) }
+    ensures stops { IfErr result StopsWork }
 {
     let parts = shelf.slots() as u32;
     for number in (1..=parts).rev() {
@@ -41,7 +43,8 @@ impl Stock {
     pub fn drawn(heap: Global, inputs: usize, parts: usize) -> Result<Stock, Failure>
         requires some { 1 ≤ inputs }
         requires few { inputs ≤ 10 }
-        ensures { IfOk result (λ stock. full stock.shelf.count stock.shelf.slots ≡ true) }
+        ensures full { IfOk result (λ stock. full stock.shelf.count stock.shelf.slots ≡ true) }
+        ensures stops { IfErr result StopsWork }
     {
         let mut random = Random(1);
         let plain = Model::plain(heap, &mut random, inputs)?;
