@@ -1,6 +1,6 @@
 -- What a shelf is heard to answer.
 use Rattle.std.proofs.Common.{◌≡◌, ℕ, ◌+◌, ◌-◌, ◌≤◌, ◌<◌, ◌⊎◌, Bool, true, false, eqb, List, [], ◌∷◌, ◌++◌, length, get_or, take, drop, Some, None, Option, MatchOption, Ok, Err, Result, Bor, refl, sym, ap, ◌∙◌, subst, inr, ⊎_elim, arith, rules}
-use Rattle.std.specs.Prelude.{vec_items, slice_range}
+use Rattle.std.specs.Prelude.{vec_items, slice_range, unwrap_or}
 use Rattle.std.specs.Cmp.Lexicographic.{pointwise}
 use Rattle.std.specs.Bool.{Decides}
 use Rattle.std.specs.Option.{option_eq}
@@ -36,6 +36,13 @@ whole n new rest long =
 -- the front of the room is the text that was written into it
 front_is : (room rest text : List ℕ) (size : ℕ) → size ≡ length text → room ≡ text ++ rest → slice_range room 0 size ≡ text
 front_is room rest text size long is = rw is (sym (whole (size - 0) text rest (omega (arith, long))))
+
+-- and so what is read there, whatever would be read in its place
+pub read_out : (room rest text : List ℕ) (size : ℕ) (found : Option (Bor (List ℕ))) (other read : Bor (List ℕ)) → size ≡ length text → room ≡ text ++ rest
+    → MatchOption found ((size < 0) ⊎ (length room < size)) (λ x. (0 ≤ size) × (size ≤ length room) × (x.now ≡ slice_range room 0 size) × (length x.now + 0 ≡ size))
+    → read ≡ unwrap_or found other → read.now ≡ text
+read_out room rest text size None other read long is out e = absurd (⊎_elim (λ lt. omega (arith, lt)) (λ lt. omega (arith, lt, long, ap length is, length-append text rest)) out)
+read_out room rest text size (Some x) other read long is found e = ap (λ b. b.now) e ∙ found.2 ∙ front_is room rest text size long is
 
 module _ {P : Type 0} (list : P → ℕ → List OnOff → ℕ → List ℕ) (pile : P) (base : Base) (before after : Fixture) (room room' : List ℕ) (size : ℕ)
     (kept : Keeps before after)

@@ -1,10 +1,14 @@
 -- A shelf to which lines are fed.
-use Rattle.std.specs.Prelude.{◌≡◌, ◌≢◌, ℕ, ◌↔◌, ◌⊎◌, Bool, true, false, List, [], ◌∷◌, IsTrue, vec_items}
+use Rattle.std.specs.Prelude.{◌≡◌, ◌≢◌, ℕ, ◌+◌, ◌↔◌, ◌⊎◌, Bool, true, false, List, [], ◌∷◌, IsTrue, vec_items}
 use Rattle.refusals.specs.Numbers.{number}
 use Rattle.rows.specs.declared.on_off.OnOff.{OnOff}
 use Rattle.ledger.specs.Law.{Answer}
 use Rattle.answers.specs.Spelling.{text_of}
 use Rattle.shelf_line.specs.Lines.{Obeys}
+use Rattle.inventory.specs.declared.shelf.Shelf.{Shelf}
+use Rattle.damaged_lines.specs.Counts.{at_most}
+use Rattle.damaged_lines.specs.Dues.{IsMet, LineDue}
+use Rattle.damaged_lines.specs.declared.reader.Due.{Due}
 use Rattle.damaged_lines.specs.declared.base.Base.{Base}
 use Rattle.damaged_lines.specs.declared.base.Group.{Group}
 use Rattle.damaged_lines.specs.declared.failure.Failure.{Failure}
@@ -39,6 +43,16 @@ module _ {P : Type 0} (list : P → ℕ → List OnOff → ℕ → List ℕ) (pi
   Matches base before same after =
       (answer : Answer) × Obeys list pile (vec_items base.line) before.shelf (vec_items before.memory) answer after.shelf (vec_items after.memory)
       × (IsTrue same ↔ (text_of answer ≡ base.answer.now)) × Keeps before after
+
+  -- what the shelf answers to the line is what is due to it
+  abbrev pub AnsweredAsDue : Fixture → List ℕ → Type 0
+  AnsweredAsDue fixture line =
+      (answer : Answer) × (shelf : Shelf) × (memory : List OnOff) × Obeys list pile line fixture.shelf (vec_items fixture.memory) answer shelf memory
+      × ((it : Due) × LineDue fixture.stock.now line it × IsMet fixture.stock.now it (text_of answer) true)
+
+  -- a difference is counted, or there is none
+  abbrev pub IsHeld : (before after : ℕ) → Fixture → List ℕ → Type 0
+  IsHeld before after fixture line = (after ≡ at_most (before + 1)) ⊎ ((after ≡ before) × AnsweredAsDue fixture line)
 
   -- these lines in turn are answered as it is known, up to the first that is not
   abbrev pub AnswersEach : List Base → Fixture → Bool → Fixture → Type 0

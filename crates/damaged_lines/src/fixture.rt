@@ -1,11 +1,13 @@
-ghost use Rattle.std.specs.Prelude.{◌≡◌, Ok, IfOk, IfErr, OnOk, ◌*◌, vec_len};
+ghost use Rattle.std.specs.Prelude.{◌≡◌, true, false, Ok, IfOk, IfErr, OnOk, ◌*◌, vec_len};
 ghost use Rattle.ledger.specs.Law.{list_by};
 ghost use Rattle.shelf_line.specs.Lines.{Answers};
+ghost use Rattle.damaged_lines.specs.Dues.{IsMet};
 ghost use Rattle.damaged_lines.specs.Stocks.{Stocked};
 ghost use Rattle.damaged_lines.specs.Fixtures.{IsFixture, NotMade, Keeps, Matches, AnswersEach, IsAsBefore};
 
 use crate::base::{Base, Group};
 use crate::failure::Failure;
+use crate::reader::Due;
 use crate::stock::Stock;
 use inventory::Shelf;
 use rows::OnOff;
@@ -79,6 +81,13 @@ impl<'a> Fixture<'a> {
         ensures { IsAsBefore (list_by ⟦<StandardPile as Signature<OnOff>>⟧.count ⟦<StandardPile as Signature<OnOff>>⟧.value) STANDARD_PILE self.old result self.new }
     {
         self.memory.as_slice() == self.before.as_slice() && self.answers_each(self.probes)
+    }
+
+    // Whether an answer is not the one that is due, or the shelf is not as before where this changes nothing.
+    pub fn differs(&mut self, answer: &[u8], due: Due) -> bool
+        ensures { result ≡ false → IsMet self.old.stock.now due.entry answer.now true }
+    {
+        !due.is_met_by(answer, self.stock) || !due.changes_the_shelf() && !self.is_as_before()
     }
 
     // Whether the card is answered as before.

@@ -1,6 +1,7 @@
 ghost use Rattle.std.specs.Prelude.{◌≡◌, ◌+◌, ◌*◌, ◌<◌, [], length, vec_len, vec_items, IfOk, IfErr, OnOk};
 ghost use Rattle.damaged_lines.specs.Counts.{Grows, damages, no_lines};
-ghost use Rattle.damaged_lines.specs.Fixtures.{IsFixture, NotMade};
+ghost use Rattle.ledger.specs.Law.{list_by};
+ghost use Rattle.damaged_lines.specs.Fixtures.{IsFixture, IsHeld, NotMade};
 
 use crate::base::{Base, Group};
 use crate::damage::{Change, append, damage};
@@ -9,6 +10,8 @@ use crate::fixture::{Fixture, ROOM};
 use crate::reader::Due;
 use crate::tally::Tally;
 use draws::Random;
+use rows::OnOff;
+use signatures::{STANDARD_PILE, Signature, StandardPile};
 use std::alloc::{AllocError, Global};
 
 // More differences than this are counted and not told.
@@ -63,18 +66,18 @@ impl<'a> Trial<'a> {
         })
     }
 
-    // Feeds a line to the shelf, which is then as before.
+    // Feeds a line to the shelf, which is then as before. Where no difference is counted the line was answered as is due.
     fn feed(&mut self, line: &[u8]) -> Result<(), Failure>
-        ensures { OnOk result (Grows self.old.tally.fed 1 self.new.tally.fed) }
+        ensures fed { OnOk result (Grows self.old.tally.fed 1 self.new.tally.fed) }
+        ensures held { OnOk result (IsHeld (list_by ⟦<StandardPile as Signature<OnOff>>⟧.count ⟦<StandardPile as Signature<OnOff>>⟧.value) STANDARD_PILE self.old.tally.differences self.new.tally.differences self.old.fixture line.now) }
     {
         let fixture = &mut self.fixture;
         let mut room = [0; ROOM];
         let size = fixture.answer(line, &mut room);
         let answer = room.get(..size).unwrap_or(&[]);
         let due = Due::of(line, fixture.stock);
-        let changes = due.changes_the_shelf();
-        let differs = !due.is_met_by(answer, fixture.stock) || !changes && !fixture.is_as_before();
-        if changes || differs {
+        let differs = fixture.differs(answer, due);
+        if differs || due.changes_the_shelf() {
             fixture.restock()?;
         }
         self.tally.count(answer, differs);
