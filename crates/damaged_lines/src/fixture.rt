@@ -1,4 +1,4 @@
-ghost use Rattle.std.specs.Prelude.{◌≡◌, true, false, Ok, IfOk, IfErr, OnOk, ◌*◌, vec_len};
+ghost use Rattle.std.specs.Prelude.{◌≡◌, ◌⊎◌, true, false, Ok, IfOk, IfErr, OnOk, ◌*◌, vec_len};
 ghost use Rattle.ledger.specs.Law.{list_by};
 ghost use Rattle.shelf_line.specs.Lines.{Answers};
 ghost use Rattle.damaged_lines.specs.Dues.{IsMet};
@@ -85,7 +85,8 @@ impl<'a> Fixture<'a> {
 
     // Whether an answer is not the one that is due, or the shelf is not as before where this changes nothing.
     pub fn differs(&mut self, answer: &[u8], due: Due) -> bool
-        ensures { result ≡ false → IsMet self.old.stock.now due.entry answer.now true }
+        ensures met { result ≡ false → IsMet self.old.stock.now due.entry answer.now true }
+        ensures other { result ≡ true → IsMet self.old.stock.now due.entry answer.now false ⊎ IsAsBefore (list_by ⟦<StandardPile as Signature<OnOff>>⟧.count ⟦<StandardPile as Signature<OnOff>>⟧.value) STANDARD_PILE self.old false self.new }
     {
         !due.is_met_by(answer, self.stock) || !due.changes_the_shelf() && !self.is_as_before()
     }

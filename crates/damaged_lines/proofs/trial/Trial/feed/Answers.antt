@@ -13,7 +13,7 @@ returns-else-differs-2-clause-held c =
     let read : c.unwrap_or-answer.result.now ≡ text_of answered.0 = read_out c.answer-size.new.room _ (text_of answered.0) c.answer-size.result c.get.result _ c.unwrap_or-answer.result answered.2 answered.3 c.get.ensures.lookup.0 c.unwrap_or-answer.ensures in
     let stock : after.stock.now ≡ before.fixture.stock.now = ap (λ f. f.stock.now) c.answer-size.ensures.kept in
     let due : LineDue before.fixture.stock.now c.args.line.now c.of-due.result = rw stock at c.of-due.ensures in
-    let met : IsMet before.fixture.stock.now c.of-due.result (text_of answered.0) true = rw (stock, read) at (c.differs-differs.ensures c.if-differs-2.false) in
+    let met : IsMet before.fixture.stock.now c.of-due.result (text_of answered.0) true = rw (stock, read) at (c.differs-differs.ensures.met c.if-differs-2.false) in
     let stays : c.if-differs.self.tally ≡ before.tally = elim c.if-differs.branch [
       | then-differs+in_ok-restock w ↦ ap (λ s. s.tally) w.self-is
       | else-differs+else-changes_the_shelf w ↦ ap (λ s. s.tally) w.self-is
