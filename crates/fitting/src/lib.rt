@@ -1,3 +1,4 @@
+//! What a pile of signatures tells apart of a card and a part, and the first wiring found with its strikes.
 #![tactic(auto)]
 
 mod pruning;

@@ -13,7 +13,7 @@ use rows::RowKind;
 use signatures::Signature;
 use tables::Table;
 
-// The pairs of a card input and a pin that a pile tells apart: those with unequal lists. No agreeing wiring uses one.
+/// The pairs of a card input and a pin that a pile tells apart: those with unequal lists. No agreeing wiring uses one.
 pub fn strikes_by<R: RowKind, P: Signature<R>>(
     pile: &P,
     card: &Table<R>,
@@ -29,7 +29,7 @@ pub fn strikes_by<R: RowKind, P: Signature<R>>(
     strikes(&card_lists, &part_lists)
 }
 
-// How many pairs a pile tells apart.
+/// How many pairs a pile tells apart.
 pub fn struck_by<R: RowKind, P: Signature<R>>(pile: &P, card: &Table<R>, part: &Table<R>) -> usize
     ensures { result ≡ struck_pairs (all_lists (P.Signature.count pile.now) (P.Signature.value pile.now) card.now.inputs card.now.rows.now) (all_lists (P.Signature.count pile.now) (P.Signature.value pile.now) part.now.inputs part.now.rows.now) }
 {
@@ -40,7 +40,7 @@ pub fn struck_by<R: RowKind, P: Signature<R>>(pile: &P, card: &Table<R>, part: &
     struck_count(&card_lists, &part_lists)
 }
 
-// In how many ways a pile leaves the pins open: the agreeing wirings number at most so many.
+/// In how many ways a pile leaves the pins open: the agreeing wirings number at most so many.
 pub fn spread_by<R: RowKind, P: Signature<R>>(pile: &P, card: &Table<R>, part: &Table<R>) -> u32
     ensures formula { result ≡ spread (all_lists (P.Signature.count pile.now) (P.Signature.value pile.now) card.now.inputs card.now.rows.now) (all_lists (P.Signature.count pile.now) (P.Signature.value pile.now) part.now.inputs part.now.rows.now) }
     ensures bound { AtMost (λ w. Agree R.RowKind.same card.now.inputs w card.now.rows.now part.now.rows.now) card.now.inputs result }

@@ -6,8 +6,8 @@ use rows::RowKind;
 use signatures::Signature;
 use tables::{Table, Wiring};
 
-// The first wiring under which card and part agree. The pile only spares the search work: whatever it tells apart, no
-// agreeing wiring is lost.
+/// The first wiring under which card and part agree. The pile only spares the search work: whatever it tells apart, no
+/// agreeing wiring is lost.
 pub fn wiring_by<R: RowKind, P: Signature<R>>(
     pile: &P,
     card: &Table<R>,

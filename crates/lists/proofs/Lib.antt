@@ -4,3 +4,4 @@ pub mod Times
 pub mod Pairs
 pub mod Running
 pub mod Ways
+pub mod Permuted

@@ -1,3 +1,4 @@
+//! The lists that signatures give to a table's inputs: which pairs they strike, how many, and the spread.
 #![tactic(auto)]
 
 mod lists;

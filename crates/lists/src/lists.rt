@@ -2,8 +2,8 @@ ghost use Rattle.std.specs.Prelude.{◌≡◌, ◌≤◌, length};
 
 mod reading;
 
-// For each input of a table its list: its answers at every place, in order. Rows past the inputs and answers past the
-// places do not count.
+/// For each input of a table its list: its answers at every place, in order. Rows past the inputs and answers past the
+/// places do not count.
 #[derive(Clone, Copy)]
 pub struct Lists {
     pub inputs: usize,
@@ -15,7 +15,7 @@ pub struct Lists {
 }
 
 impl Lists {
-    // Of no inputs, at no places.
+    /// Of no inputs, at no places.
     pub const NONE: Lists = Lists {
         inputs: 0,
         places: 0,

@@ -6,8 +6,8 @@ ghost use Rattle.lists.specs.Counting.{AtMost};
 
 use crate::lists::Lists;
 
-// In how many ways each input can get a pin of its own with an equal list: no more wirings keep the lists.
-// Without inputs on either side that is 1, and where the numbers of inputs differ it is 0.
+/// In how many ways each input can get a pin of its own with an equal list: no more wirings keep the lists.
+/// Without inputs on either side that is 1, and where the numbers of inputs differ it is 0.
 pub fn spread(card: &Lists, part: &Lists) -> u32
     ensures formula { result ≡ spread (lists card.now) (lists part.now) }
     ensures uneven { (card.now.inputs ≢ part.now.inputs) → result ≡ 0 }

@@ -7,7 +7,7 @@ ghost use Rattle.lists.specs.Pairs.{unequal, struck_pairs};
 use crate::lists::Lists;
 use matching::Strikes;
 
-// Strikes each pair of an input and a pin with unequal lists, and no other: the wirings that keep the lists are spared.
+/// Strikes each pair of an input and a pin with unequal lists, and no other: the wirings that keep the lists are spared.
 pub fn strikes(card: &Lists, part: &Lists) -> Strikes
     ensures exact { (i p : ℕ) → struck result.struck i p ≡ unequal card.now part.now i p }
     ensures spares { (n : ℕ) (w : ℕ → ℕ) → Keeps n card.now part.now w → Spared result.struck n w }
@@ -24,7 +24,7 @@ pub fn strikes(card: &Lists, part: &Lists) -> Strikes
     strikes
 }
 
-// How many of all pairs of an input and a pin have unequal lists.
+/// How many of all pairs of an input and a pin have unequal lists.
 pub fn struck_count(card: &Lists, part: &Lists) -> usize
     ensures { result ≡ struck_pairs (lists card.now) (lists part.now) }
 {

@@ -10,10 +10,13 @@ use Rattle.tables.specs.Making.{Takes, Extended}
 use Rattle.tables.specs.declared.partial_wiring.PartialWiring.{PartialWiring}
 use Rattle.tables.specs.declared.table.Table.{Table}
 use Rattle.tables.specs.declared.wiring.Wiring.{Wiring}
+use Rattle.tables.specs.Above.{SumsAbove}
 use Rattle.tables.proofs.Carries.{carry_ext, carry_low, carry_high, carry_up, carry_lt, agree_row, rows_agree}
 use Rattle.matching.specs.declared.search.Search.{Search}
 use Rattle.matching.specs.Struck.{struck}
 use Rattle.matching.specs.Search.{Usable, Found}
+use Rattle.matching.specs.Fitting.{Parted}
+use Rattle.matching.proofs.Shared.{sums_there}
 use Rattle.matching.specs.Begun.{Barred, Begins, Begun, Differs, Placing, FirstFrom, SameSearch, Settled, Within}
 
 some : {R : Type 0} (xs : List R) → 0 < length xs → R
@@ -41,20 +44,26 @@ grown begun p longer e = record { inputs = e.0; len = e.1; before = e.2; next = 
 placed_next : {n k p : ℕ} {w u : ℕ → ℕ} → Alike k u w → u k ≡ p → Placed n k w → p < n → ((i : ℕ) → i < k → w i ≡ p → ⊥) → Placed n (suc k) u
 placed_next kept new h lp free = (search rules, search rules)
 
-module _ {R : Type 0} (same : R → R → Bool) where
-  -- what is decided of a row that a wiring carries so decides of the wiring
-  differs_none : (card part : Table R) (strikes : List (List Bool)) (r q : ℕ) (v : ℕ → ℕ) → r < 2 ^ card.inputs → carry card.inputs v r ≡ q
-      → ((d : R) → same (get_or card.rows.now r d) (get_or part.rows.now q d) ≡ false) → Usable same card part strikes v → ⊥
-  differs_none card part strikes r q v lt e off usable =
+module _ {R : Type 0} (same : R → R → Bool) (weight : R → ℕ) (alike : (x y : R) → same x y ≡ true → weight x ≡ weight y) (card part : Table R) (strikes : List (List Bool)) (inputs : card.inputs ≡ part.inputs) where
+  -- a wiring that carries a row where it does not belong is not usable
+  parted_none : (card_sums part_sums : List ℕ) → SumsAbove weight card card_sums → SumsAbove weight part part_sums → (r q : ℕ) (v : ℕ → ℕ) → r < 2 ^ card.inputs → carry card.inputs v r ≡ q
+      → Parted same card part card_sums part_sums r q → Usable same card part strikes v → ⊥
+  parted_none card_sums part_sums in_card in_part r q v lt e off usable =
+      let n = card.inputs in
+      let xs = card.rows.now in
+      let ys = part.rows.now in
       let d = a_row card in
-      both_ways (same (get_or card.rows.now r d) (get_or part.rows.now q d)) (off d)
-      (ap (λ z. same (get_or card.rows.now r d) (get_or part.rows.now z d)) (sym e) ∙ agree_row same card.inputs card.rows.now part.rows.now v usable.agree r d lt)
+      let a = usable.agree in
+      ⊎_elim
+      (λ rows. both_ways (same (get_or xs r d) (get_or ys q d)) (rows d) (ap (λ z. same (get_or xs r d) (get_or ys z d)) (sym e) ∙ agree_row same n xs ys v a r d lt))
+      (λ sums. sums (sums_there same weight alike card part inputs card_sums part_sums in_card in_part v a r q lt e))
+      off
 
-  -- row 0 is decided before any pin
-  pub differs_first : (card part : Table R) (strikes : List (List Bool)) → ((d : R) → same (get_or card.rows.now 0 d) (get_or part.rows.now 0 d) ≡ false) → Found same card part strikes None
-  differs_first card part strikes off v =
-      let pos = pow_pos card.inputs in
-      differs_none card part strikes 0 0 v pos (carry_up 0 card.inputs v 0 (omega arith) (omega arith)) off
+  -- row 0 is decided before any pin, and the sum above it is that of all weights
+  pub parted_first : (card_sums part_sums : List ℕ) → SumsAbove weight card card_sums → SumsAbove weight part part_sums → Parted same card part card_sums part_sums 0 0 → Found same card part strikes None
+  parted_first card_sums part_sums in_card in_part off v =
+      let n = card.inputs in
+      parted_none card_sums part_sums in_card in_part 0 0 v (pow_pos n) (carry_up 0 n v 0 (omega arith) (omega arith)) off
 
 -- what is said of a search later holds of it now, since its tables and strikes stay
 module _ {R : Type 0} {m : ℕ} {before after : Search R} (on : SameSearch m before after) where
@@ -62,7 +71,10 @@ module _ {R : Type 0} {m : ℕ} {before after : Search R} (on : SameSearch m bef
   same_on more le = record {
     card = more.card ∙ on.card;
     part = more.part ∙ on.part;
+    card_sums = more.card_sums ∙ on.card_sums;
+    part_sums = more.part_sums ∙ on.part_sums;
     strikes = more.strikes ∙ on.strikes;
+    lowers = more.lowers ∙ on.lowers;
     kept = λ r lt. more.kept r (omega arith) ∙ on.kept r lt;
   }
 
@@ -85,7 +97,7 @@ module _ {R : Type 0} {m : ℕ} {before after : Search R} (on : SameSearch m bef
     }
     within_on begun None h = λ v usable. h v (usable_on v usable)
 
-module _ {R : Type 0} {same : R → R → Bool} {search : Search R} {begun : PartialWiring} (h : Begun same search begun) where
+module _ {R : Type 0} {same : R → R → Bool} {weight : R → ℕ} {search : Search R} {begun : PartialWiring} (h : Begun same weight search begun) where
   abbrev card : Table R
   card = search.card.now
 
@@ -124,7 +136,7 @@ module _ {R : Type 0} {same : R → R → Bool} {search : Search R} {begun : Par
     u = pin longer.pins
 
     begun_more : (after : Search R) → SameSearch (2 ^ k) search after → struck search.strikes.now.struck k p ≡ false
-        → Settled same card.rows.now part.rows.now (2 ^ k) (2 ^ k) (2 ^ p) carried after.carried → Begun same after longer
+        → Settled same card.rows.now part.rows.now (2 ^ k) (2 ^ k) (2 ^ p) carried after.carried → Begun same weight after longer
     begun_more after on free s =
         let up : (r : ℕ) → carry longer.len u r ≡ carry (suc k) u r = λ r. ap (λ m. carry m u r) (g.len ∙ add-one k) in
         let low : (r : ℕ) → r < 2 ^ k → carry k w r ≡ carry longer.len u r = λ r lt. sym (carry_ext k u w r g.before) ∙ sym (carry_low k u r lt) ∙ sym (up r) in
@@ -132,6 +144,9 @@ module _ {R : Type 0} {same : R → R → Bool} {search : Search R} {begun : Par
         let two : 2 ^ longer.len ≡ 2 ^ k + 2 ^ k = ap (λ m. 2 ^ m) (g.len ∙ add-one k) ∙ two-pow-succ k in
         record {
           card_inputs = g.inputs ∙ h.card_inputs ∙ ap (λ t. t.inputs) (sym on.card);
+          card_sums = rw (on.card, on.card_sums) h.card_sums;
+          part_sums = rw (on.part, on.part_sums) h.part_sums;
+          lowers = rw (on.part, on.strikes, on.lowers) h.lowers;
           spared = rw on.strikes (λ i li. below_more (λ i. struck search.strikes.now.struck i (u i) ≡ false) k
               (λ i l. ap (λ y. struck search.strikes.now.struck i y) (g.before i l) ∙ h.spared i l) (ap (λ y. struck search.strikes.now.struck k y) g.next ∙ free) i (omega (arith, g.len)));
           carries = halves (λ r. get_or after.carried r 0 ≡ carry longer.len u r) (2 ^ k) (2 ^ longer.len) two
@@ -145,9 +160,9 @@ module _ {R : Type 0} {same : R → R → Bool} {search : Search R} {begun : Par
               (λ r l. ap (λ y. same (get_or card.rows.now (2 ^ k + r) d) (get_or part.rows.now y d)) (sym (high r l)) ∙ s.alike r d l) r lt;
         }
 
-  -- a row that is not the same shuts out every usable wiring that goes on so
-  pub differs_barred : (p : ℕ) → k < begun.inputs → Differs same card.rows.now part.rows.now (2 ^ k) (2 ^ p) carried → Barred same search begun p
-  differs_barred p lk f v usable a new =
+  -- a row that differs, or the sum above it, shuts out every usable wiring that goes on so
+  pub differs_barred : ((x y : R) → same x y ≡ true → weight x ≡ weight y) → (p : ℕ) → k < begun.inputs → Differs same search (2 ^ k) (2 ^ p) → Barred same search begun p
+  differs_barred alike p lk f v usable a new =
       let n = card.inputs in
       let r = f.0 in
       let le : suc k ≤ n = omega (arith, h.card_inputs) in
@@ -158,11 +173,11 @@ module _ {R : Type 0} {same : R → R → Bool} {search : Search R} {begun : Par
       let x = carry_ext k v w r a in
       let m = h.carries r f.1 in
       let y : 2 ^ v k ≡ 2 ^ p = ap (λ z. 2 ^ z) new in
-      differs_none same card part search.strikes.now.struck (2 ^ k + r) (get_or carried r 0 + 2 ^ p) v (omega (arith, f.1)) (omega arith) f.2 usable
+      parted_none same weight alike card part search.strikes.now.struck search.same_inputs search.card_sums.now search.part_sums.now h.card_sums h.part_sums (2 ^ k + r) (get_or carried r 0 + 2 ^ p) v (omega (arith, f.1)) (omega arith) f.2 usable
 
   -- the rows of the next pin are the same
   pub placed : (p : ℕ) → Takes begun p → struck search.strikes.now.struck k p ≡ false → (after : Search R) → SameSearch (2 ^ k) search after
-      → Settled same card.rows.now part.rows.now (2 ^ k) (2 ^ k) (2 ^ p) carried after.carried → (r : Option PartialWiring) → Extended begun p r → Placing same search begun p r after
+      → Settled same card.rows.now part.rows.now (2 ^ k) (2 ^ k) (2 ^ p) carried after.carried → (r : Option PartialWiring) → Extended begun p r → Placing same weight search begun p r after
   placed p takes free after on settled (Some longer) e = (e, begun_more (grown begun p longer e) after on free settled)
   placed p takes free after on settled None e = absurd (e takes)
 

@@ -13,3 +13,8 @@ pub record Strike (before : List (List Bool)) (input pin : ℕ) (after : List (L
 -- w gives none of the first k inputs a pin that is struck for it
 abbrev pub Spared : List (List Bool) → ℕ → (ℕ → ℕ) → Type 0
 Spared strikes k w = (i : ℕ) → i < k → struck strikes i (w i) ≡ false
+
+-- of n inputs and pins, input k is struck with every pin, or pin k with every input: so every wiring uses a struck pair
+abbrev pub LeftOut : List (List Bool) → ℕ → ℕ → Type 0
+LeftOut strikes n k =
+    ((p : ℕ) → p < n → struck strikes k p ≡ true) ⊎ ((i : ℕ) → i < n → struck strikes i k ≡ true)

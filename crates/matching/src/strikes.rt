@@ -1,7 +1,7 @@
 ghost use Rattle.std.specs.Prelude.{◌≡◌, ℕ, ◌<◌, false, [], length, slice_index_or};
 ghost use Rattle.matching.specs.Struck.{struck, Strike};
 
-// Pairs of a card input and a pin that a wiring may not use.
+/// Pairs of a card input and a pin that a wiring may not use.
 #[derive(Clone, Copy)]
 pub struct Strikes {
     struck: [[bool; 10]; 10],
@@ -9,6 +9,7 @@ pub struct Strikes {
 }
 
 impl Strikes {
+    /// No pair is struck.
     pub fn none() -> Strikes
         ensures { (i p : ℕ) → struck result.struck i p ≡ false }
     {
@@ -17,7 +18,7 @@ impl Strikes {
         }
     }
 
-    // Strikes a pair. There is none where the input or the pin is ten or more.
+    /// Strikes a pair. There is none where the input or the pin is ten or more.
     pub fn strike(&mut self, input: usize, pin: usize)
         ensures { Strike self.old.struck input pin self.new.struck }
     {
@@ -26,6 +27,7 @@ impl Strikes {
         }
     }
 
+    /// Whether a pair is struck.
     pub fn is_struck(&self, input: usize, pin: usize) -> bool
         ensures { result ≡ struck self.now.struck input pin }
     {

@@ -1,3 +1,4 @@
+//! The refusals, each with its number and its text.
 #![tactic(auto)]
 
 mod refusal;

@@ -5,7 +5,7 @@ ghost use Rattle.refusals.specs.Texts.{text};
 use std::error::Error;
 use std::fmt;
 
-// Why a call was refused. Each case has a fixed number, by which every layer and every answer text knows it.
+/// Why a call was refused. Each case has a fixed number, by which every layer and every answer text knows it.
 #[derive(Clone, Copy, PartialEq, Eq, Debug)]
 pub enum Refusal {
     NotAForm = 1,
@@ -25,13 +25,14 @@ pub enum Refusal {
 }
 
 impl Refusal {
+    /// The number that answers and pages name it by.
     pub fn number(self) -> u8
         ensures { result ≡ number self }
     {
         self as u8
     }
 
-    // What it says to a person.
+    /// What it says to a person.
     pub fn reason(self) -> &'static str
         ensures { result.now ≡ text self }
     {

@@ -3,6 +3,7 @@ ghost use Rattle.std.specs.Prelude.{◌≤◌};
 mod making;
 mod row;
 
+/// Where a drive moves.
 #[derive(Clone, Copy, PartialEq, Eq, Debug)]
 pub enum Direction {
     Rest,
@@ -10,7 +11,7 @@ pub enum Direction {
     Right,
 }
 
-// What a card drives in a row: a direction, and for how many ticks it is held.
+/// What a card drives in a row: a direction, and for how many ticks it is held.
 #[derive(Clone, Copy, Debug)]
 pub struct Drive {
     pub direction: Direction,

@@ -3,7 +3,7 @@ ghost use Rattle.std.proofs.Common.{rules};
 
 use crate::row_kind::RowKind;
 
-// A kind that calls all rows the same, whatever they hold: lawful, and so a test of what is said of every kind.
+/// A kind that calls all rows the same, whatever they hold: lawful, and so a test of what is said of every kind.
 #[derive(Clone, Copy)]
 pub struct Indistinct(pub u8);
 

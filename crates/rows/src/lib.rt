@@ -1,3 +1,4 @@
+//! What a row may hold: the trait of row kinds with its laws, on/off rows, drives, and rows that are all the same.
 #![tactic(auto)]
 
 mod drive;

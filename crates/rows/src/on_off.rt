@@ -3,7 +3,7 @@ ghost use Rattle.std.proofs.Common.{rules};
 
 use crate::row_kind::RowKind;
 
-// A row that is 0 or 1.
+/// A row that is 0 or 1.
 #[derive(Clone, Copy, PartialEq, Eq, Debug)]
 pub enum OnOff {
     Off,

@@ -23,9 +23,10 @@ module _ {R : Type 0} (count : ℕ) (value : ℕ → List R → ℕ → ℕ → 
       ∙ fill_by_all (value n rows i) (take lists.places row) count 0 long (λ p lp. get_or-take lists.places row p 0 (omega (arith, h.places)) ∙ h.answers i p li ∙ given_yes count value n rows i p li lp)
 
   -- a wiring under which they agree gives each input a pin with an equal list
+  pub list_kept : (same : R → R → Bool) → Lawful count value same → (n : ℕ) (card part : List R) (w : ℕ → ℕ) → Agree same n w card part → (i : ℕ) → i < n → list_of count value n card i ≡ list_of count value n part (w i)
+  list_kept same law n card part w agree i li = same_answers (value n card i) (value n part (w i)) count (λ p lp. law n card part w agree i p li lp)
+
   pub keeps : (same : R → R → Bool) → Lawful count value same → (n : ℕ) (card part : List R) (a b : Lists) → GivesLists count value n card a → GivesLists count value n part b
       → (w : ℕ → ℕ) → Agree same n w card part → Keeps n a b w
   keeps same law n card part a b ha hb w agree i li =
-      list_is n card a ha i li
-      ∙ same_answers (value n card i) (value n part (w i)) count (λ p lp. law n card part w agree i p li lp)
-      ∙ sym (list_is n part b hb (w i) (agree.wires.0 i li))
+      list_is n card a ha i li ∙ list_kept same law n card part w agree i li ∙ sym (list_is n part b hb (w i) (agree.wires.0 i li))

@@ -12,3 +12,4 @@ pub mod Laws
 pub mod Counts
 pub mod Kept
 pub mod OneOf
+pub mod Adding

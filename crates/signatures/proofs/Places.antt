@@ -5,7 +5,7 @@ use Rattle.std.proofs.lemmas.Grind.{common_steps}
 use Rattle.std.proofs.lemmas.Bool.{cases_lt}
 use Rattle.signatures.specs.Writing.{Free, AllFree}
 
-zeros : (n p : ℕ) → ◌≡◌ {A = ℕ} (get_or (replicate n 0) p 0) 0
+pub zeros : (n p : ℕ) → ◌≡◌ {A = ℕ} (get_or (replicate n 0) p 0) 0
 zeros n p =
     ⊎_elim (get_or-replicate {A = ℕ} n p 0 0) (λ ge. grind (arith, common_steps)) (cases_lt p n)
 

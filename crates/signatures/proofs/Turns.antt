@@ -2,6 +2,7 @@
 use Rattle.std.proofs.Common.{◌≡◌, ℕ, zero, suc, ◌+◌, ◌*◌, ◌<◌, ◌≤◌, Bool, true, false, cond, ◌&&◌, eqb, List, [], ◌∷◌, length, get_or, sym, ap, ◌∙◌, mul-suc, add-one, arith, eq-eqb}
 use Rattle.std.proofs.lemmas.List.{get_or-map}
 use Rattle.std.proofs.lemmas.Bool.{ne_eqb, eqb-true, eqb-false}
+use mir.Val.{bool_byte}
 use Rattle.tables.specs.Sums.{sum_to}
 use Rattle.tables.specs.Agreement.{bit}
 use Rattle.signatures.specs.Values.{where_on, weight_at}
@@ -40,3 +41,8 @@ cond_most b x m le = grind arith
 
 pub cond_and : (a b : Bool) (x : ℕ) → cond (a && b) x 0 ≡ cond a (cond b x 0) 0
 cond_and a b x = grind arith
+
+-- a weight that is counted or not
+pub times_bool : (w : ℕ) (b : Bool) → w * bool_byte b ≡ cond b w 0
+times_bool w true = omega arith
+times_bool w false = omega arith

@@ -1,5 +1,5 @@
 -- What each signature answers, for a table of n inputs, an input i and a place p.
-use Rattle.std.specs.Prelude.{ℕ, zero, suc, ◌+◌, ◌-◌, ◌*◌, ◌%◌, ◌^◌, min, Bool, if◌then◌else◌, List, [], ◌∷◌, map, drop, ◌==◌, count_ones, nat_lt, slice_index, slice_index_or}
+use Rattle.std.specs.Prelude.{ℕ, zero, suc, ◌+◌, ◌-◌, ◌*◌, ◌%◌, ◌^◌, min, Bool, if◌then◌else◌, List, [], ◌∷◌, map, drop, ◌==◌, count_ones, nat_le, nat_lt, slice_index, slice_index_or}
 use Rattle.tables.specs.Sums.{sum_to}
 use Rattle.tables.specs.Agreement.{bit}
 
@@ -7,9 +7,17 @@ use Rattle.tables.specs.Agreement.{bit}
 abbrev pub where_on : ℕ → ℕ → ℕ → ℕ
 where_on i r x = if bit i r == 1 then x else 0
 
+-- what a row r of this weight adds to what breakup answers for input i, at place p of a list where its answers begin at from
+abbrev pub adds : ℕ → ℕ → ℕ → ℕ → ℕ → ℕ
+adds from weight i r p = if nat_le from p then where_on i r (if count_ones r == p - from + 1 then weight else 0) else 0
+
 -- over all inputs but i: what pairs it with i, times what its answer gives
 abbrev pub refined_sum : ℕ → ℕ → (ℕ → ℕ) → (ℕ → ℕ) → ℕ
 refined_sum n i pair answer = sum_to n (λ k. if k == i then 0 else pair k * (1 + answer k % 4096))
+
+-- over the sums of a table and the lists below: each other input's answer, by the sum above the two inputs
+abbrev pub refined_from : List ℕ → List (List ℕ) → ℕ → ℕ → ℕ → ℕ
+refined_from sums below n i p = refined_sum n i (λ k. slice_index sums (2 ^ i + 2 ^ k)) (λ k. slice_index (slice_index_or below k []) p)
 
 module _ {R : Type 0} (weight : R → ℕ) where
   -- the weight of row r
@@ -27,10 +35,6 @@ module _ {R : Type 0} (weight : R → ℕ) where
   -- the sum of the weights over the rows whose bits i and k are both 1
   abbrev pub paired : ℕ → List R → ℕ → ℕ → ℕ
   paired n rows i k = sum_to (2 ^ n) (λ r. where_on i r (where_on k r (weight_at rows r)))
-
-  -- over the lists below: each other input's answer, by the weight that it shares with i
-  abbrev pub refined_from : List (List ℕ) → ℕ → List R → ℕ → ℕ → ℕ
-  refined_from below n rows i p = refined_sum n i (paired n rows i) (λ k. slice_index (slice_index_or below k []) p)
 
   -- over what a signature below answers: each other input's answer, by the weight that it shares with i
   abbrev pub refined : (ℕ → List R → ℕ → ℕ → ℕ) → ℕ → List R → ℕ → ℕ → ℕ

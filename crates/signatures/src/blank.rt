@@ -2,7 +2,7 @@ use crate::signature::Signature;
 use rows::RowKind;
 use tables::Table;
 
-// Has no places, and so tells no inputs apart.
+/// Has no places, and so tells no inputs apart.
 #[derive(Clone, Copy)]
 pub struct Blank;
 

@@ -7,7 +7,7 @@ use crate::weights::{is_on, weight_where};
 use rows::RowKind;
 use tables::Table;
 
-// The cofactor satisfy count, for rows of any kind: at its one place the weight of the rows with the input on.
+/// The cofactor satisfy count, for rows of any kind: at its one place the weight of the rows with the input on.
 #[derive(Clone, Copy)]
 pub struct Cofactor;
 

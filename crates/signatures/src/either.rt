@@ -4,7 +4,7 @@ use crate::signature::Signature;
 use rows::RowKind;
 use tables::Table;
 
-// One of two signatures, so that one type can stand for different piles.
+/// One of two signatures, so that one type can stand for different piles.
 #[derive(Clone, Copy)]
 pub enum Either<A, B> {
     First(A),

@@ -1,3 +1,4 @@
+//! What tells the inputs of a table apart, and never what agrees: the trait, six signatures, and piles of them.
 #![tactic(auto)]
 
 mod blank;

@@ -2,8 +2,8 @@ ghost use Rattle.signatures.specs.Literature.{CofactorCounts, BreakupCounts, Bre
 
 use rows::RowKind;
 
-// At on/off rows cofactor is the cofactor satisfy count and breakup the cofactor breakup, and for every kind of row the
-// answers of breakup sum to that of cofactor.
+/// At on/off rows cofactor is the cofactor satisfy count and breakup the cofactor breakup, and for every kind of row the
+/// answers of breakup sum to that of cofactor.
 pub fn literature_stands<R: RowKind>()
     ensures cofactor { CofactorCounts }
     ensures breakup { BreakupCounts }

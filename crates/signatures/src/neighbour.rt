@@ -23,8 +23,8 @@ fn place_of<R: RowKind>(off: &R, on: &R) -> Option<usize>
     }
 }
 
-// Three places, over the pairs of rows that differ only in the input: how many are the same, in how many the row with
-// the input on weighs more, and in how many it weighs less.
+/// Three places, over the pairs of rows that differ only in the input: how many are the same, in how many the row with
+/// the input on weighs more, and in how many it weighs less.
 #[derive(Clone, Copy)]
 pub struct Neighbour;
 

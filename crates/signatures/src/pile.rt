@@ -4,7 +4,7 @@ use crate::signature::Signature;
 use rows::RowKind;
 use tables::Table;
 
-// A pile of two: the places of the first and then those of the second, cut off after 64.
+/// A pile of two: the places of the first and then those of the second, cut off after 64.
 #[derive(Clone, Copy)]
 pub struct Pile<A, B>(pub A, pub B);
 

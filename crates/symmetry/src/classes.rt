@@ -17,7 +17,7 @@ fn class_of<R: RowKind>(table: &Table<R>, input: usize) -> usize
         .unwrap_or(input)
 }
 
-// The class of each input of a table, and 255 in the places that have no input.
+/// The class of each input of a table, and 255 in the places that have no input.
 pub fn classes_of<R: RowKind>(table: &Table<R>) -> [u8; 10]
     ensures { Classes R.RowKind.same table.now.inputs table.now.rows.now result }
 {
@@ -28,7 +28,7 @@ pub fn classes_of<R: RowKind>(table: &Table<R>) -> [u8; 10]
     classes
 }
 
-// Writes the classes of a table's inputs into the first ten bytes of the memory.
+/// Writes the classes of a table's inputs into the first ten bytes of the memory.
 pub fn write_classes<R: RowKind>(
     inputs: usize,
     rows: &[R],

@@ -1,3 +1,4 @@
+//! Which inputs of a table can change places, and the class of each.
 #![tactic(auto)]
 
 mod classes;
@@ -5,6 +6,7 @@ mod exchange;
 mod published;
 
 pub use classes::{classes_of, write_classes};
+pub use exchange::are_symmetric;
 pub use published::symmetry_is_classical;
 
 #[cfg(test)]

@@ -9,3 +9,5 @@ pub mod Shifts
 pub mod Alikes
 pub mod Pins
 pub mod Dictionary
+pub mod SumsAbove
+pub mod Pairs

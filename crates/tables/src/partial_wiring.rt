@@ -3,7 +3,7 @@ ghost use Rattle.tables.specs.Wirings.{pin, Apart};
 
 mod growing;
 
-// The beginning of a wiring for n inputs: the pins of its first inputs, each below n and none twice.
+/// The beginning of a wiring for n inputs: the pins of its first inputs, each below n and none twice.
 #[derive(Clone, Copy)]
 pub struct PartialWiring {
     inputs: usize,
@@ -21,13 +21,14 @@ pub struct PartialWiring {
 }
 
 impl PartialWiring {
+    /// How many inputs the wiring is for.
     pub fn inputs(&self) -> usize
         ensures { result ≡ self.now.inputs }
     {
         self.inputs
     }
 
-    // How many inputs have their pins.
+    /// How many inputs have their pins.
     pub fn len(&self) -> usize
         ensures { result ≡ self.now.len }
     {

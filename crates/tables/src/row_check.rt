@@ -7,7 +7,7 @@ use crate::table::Table;
 use crate::wiring::Wiring;
 use rows::RowKind;
 
-// The sum of the weights of all rows.
+/// The sum of the weights of all rows.
 pub fn total_weight<R: RowKind>(table: &Table<R>) -> u32
     ensures { result ≡ weighed R.RowKind.weight table.now.rows.now (2 ^ table.now.inputs) }
 {
@@ -18,7 +18,7 @@ pub fn total_weight<R: RowKind>(table: &Table<R>) -> u32
     sum
 }
 
-// Whether card and part agree under a wiring: the sums of the weights first, then row by row.
+/// Whether card and part agree under a wiring: the sums of the weights first, then row by row.
 pub fn agrees<R: RowKind>(card: &Table<R>, part: &Table<R>, wiring: &Wiring) -> bool
     ensures { Checked R.RowKind.same wiring.now.inputs (pin wiring.now.pins) card.now.rows.now part.now.rows.now result }
 {

@@ -7,8 +7,8 @@ mod inverse;
 mod making;
 mod order;
 
-// A wiring for n inputs: the pin of each card input, below n, and no pin twice. The places past n hold 0, so that
-// two wirings are equal when they give each input the same pin.
+/// A wiring for n inputs: the pin of each card input, below n, and no pin twice. The places past n hold 0, so that
+/// two wirings are equal when they give each input the same pin.
 #[derive(Clone, Copy, Debug)]
 pub struct Wiring {
     pub(crate) inputs: usize,
@@ -21,13 +21,14 @@ pub struct Wiring {
 }
 
 impl Wiring {
+    /// How many inputs it has.
     pub fn inputs(&self) -> usize
         ensures { result ≡ self.now.inputs }
     {
         self.inputs
     }
 
-    // The pin of each input, in order.
+    /// The pin of each input, in order.
     pub fn pins(&self) -> &[u8]
         ensures { result.now ≡ take self.now.inputs self.now.pins }
     {

@@ -5,7 +5,7 @@ ghost use Rattle.lists.specs.Spread.{times};
 use crate::lists::Lists;
 
 impl Lists {
-    // The list of an input. Past the last input it is empty.
+    /// The list of an input. Past the last input it is empty.
     pub fn list(&self, input: usize) -> &[u32]
         ensures { result.now ≡ list self.now input }
     {
@@ -16,7 +16,7 @@ impl Lists {
         }
     }
 
-    // Whether the list of an input equals the list of another table's pin. Lists of different lengths are unequal.
+    /// Whether the list of an input equals the list of another table's pin. Lists of different lengths are unequal.
     pub fn is_equal(&self, input: usize, other: &Lists, pin: usize) -> bool
         ensures value { result ≡ equal (list self.now input) (list other.now pin) }
         ensures decides { Decides result (list self.now input ≡ list other.now pin) }

@@ -20,7 +20,7 @@ impl TryFrom<u8> for Direction {
 }
 
 impl Drive {
-    // The drive of a direction's number (rest 0, left 1, right 2) and a hold of at most 99 ticks.
+    /// The drive of a direction's number (rest 0, left 1, right 2) and a hold of at most 99 ticks.
     pub fn new(direction: u8, hold: u8) -> Result<Drive, Refusal>
         ensures { Outcome (due direction hold) (Is direction hold) result }
     {

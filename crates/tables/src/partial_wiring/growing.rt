@@ -7,7 +7,7 @@ use crate::wiring::Wiring;
 use refusals::Refusal;
 
 impl PartialWiring {
-    // No input has its pin yet.
+    /// No input has its pin yet.
     pub fn empty(inputs: usize) -> Result<PartialWiring, Refusal>
         ensures { Outcome (wiring_due inputs) (IsEmpty inputs) result }
     {
@@ -22,7 +22,7 @@ impl PartialWiring {
         })
     }
 
-    // Whether the next input can have this pin.
+    /// Whether the next input can have this pin.
     pub fn takes(&self, pin: u8) -> bool
         ensures { Decides result (Takes self.now pin) }
     {
@@ -30,7 +30,7 @@ impl PartialWiring {
         self.len < self.inputs && at < self.inputs && !self.used[at]
     }
 
-    // With a pin for the next input, unless that makes no part of a wiring.
+    /// With a pin for the next input, unless that makes no part of a wiring.
     pub fn with(&self, pin: u8) -> Option<PartialWiring>
         ensures { Extended self.now pin result }
     {
@@ -44,7 +44,7 @@ impl PartialWiring {
         Some(longer)
     }
 
-    // The wiring, once each input has its pin.
+    /// The wiring, once each input has its pin.
     pub fn finish(&self) -> Option<Wiring>
         ensures { Finished self.now result }
     {

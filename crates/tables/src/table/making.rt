@@ -6,7 +6,7 @@ use crate::table::Table;
 use refusals::Refusal;
 
 impl<'a, R> Table<'a, R> {
-    // The table of so many inputs with these rows.
+    /// The table of so many inputs with these rows.
     pub fn new(inputs: usize, rows: &'a [R]) -> Result<Table<'a, R>, Refusal>
         ensures { Outcome (table_due inputs (length rows.now)) (IsTable inputs rows.now) result }
     {
@@ -14,7 +14,7 @@ impl<'a, R> Table<'a, R> {
         Ok(Table { inputs, rows })
     }
 
-    // Whether these rows are a table of so many inputs.
+    /// Whether these rows are a table of so many inputs.
     pub fn check(inputs: usize, rows: &[R]) -> Result<(), Refusal>
         ensures { Outcome (table_due inputs (length rows.now)) (λ _. (inputs ≤ 10) × (length rows.now ≡ 2 ^ inputs)) result }
     {

@@ -5,7 +5,7 @@ ghost use Rattle.tables.specs.Agreement.{Carried};
 use crate::wiring::Wiring;
 
 impl Wiring {
-    // The part row that a card row is carried to: pin w(i) has there the value that input i has in the card row.
+    /// The part row that a card row is carried to: pin w(i) has there the value that input i has in the card row.
     pub fn carry(&self, row: usize) -> usize
         ensures within { result < 2 ^ self.now.inputs }
         ensures carried { Carried self.now.inputs (pin self.now.pins) row result }

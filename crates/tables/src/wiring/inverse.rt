@@ -4,7 +4,7 @@ ghost use Rattle.tables.specs.Wirings.{pin, Inverse};
 use crate::wiring::Wiring;
 
 impl Wiring {
-    // The way back: from each pin to its input.
+    /// The way back: from each pin to its input.
     pub fn inverse(&self) -> Wiring
         ensures inputs { result.inputs ≡ self.now.inputs }
         ensures back { Inverse self.now.inputs (pin self.now.pins) (pin result.pins) }

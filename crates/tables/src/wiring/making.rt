@@ -5,7 +5,7 @@ use crate::wiring::Wiring;
 use refusals::Refusal;
 
 impl Wiring {
-    // The wiring that gives each input its pin of the list.
+    /// The wiring that gives each input its pin of the list.
     pub fn new(inputs: usize, pins: &[u8]) -> Result<Wiring, Refusal>
         ensures { WiringMade inputs pins.now result }
     {

@@ -1,6 +1,8 @@
-use Rattle.std.proofs.Common.{not, sym, ap, ◌∙◌, arith}
+use Rattle.std.proofs.Common.{false, not, sym, ap, ◌∙◌, arith}
 use Rattle.matching.specs.Struck.{struck}
-use Rattle.lists.proofs.Pairs.{unequal_here, unequal_not, unequal_so, upto_pass, upto_strike, upto_all}
+use Rattle.matching.proofs.Striking.{upto_pass, upto_strike, upto_row, upto_all}
+use Rattle.lists.specs.Pairs.{unequal}
+use Rattle.lists.proofs.Pairs.{unequal_here, unequal_not, unequal_so, unequal_within}
 use Rattle.lists.proofs.striking.strikes.Goals as goal
 use Rattle.lists.proofs.striking.strikes.Goals.{then-not-is_equal, else-not-is_equal}
 
@@ -14,17 +16,23 @@ loop-pin-preserved c =
     elim c.if-not-is_equal.branch [
       | then-not-is_equal way ↦ λ a b.
           ap (λ s. struck s.struck a b) way.strikes-is
-          ∙ upto_strike card part i p c.loop-pin.strikes.struck way.strike.new.self.struck c.loop-pin.invariant (omega (arith, card.few)) (omega (arith, part.few)) way.strike.ensures (here ∙ ap not way.if-not-is_equal.true) a b
+          ∙ upto_strike (λ _ _. false) (unequal card part) i p c.loop-pin.strikes.struck way.strike.new.self.struck c.loop-pin.invariant (omega (arith, card.few)) (omega (arith, part.few)) way.strike.ensures (here ∙ ap not way.if-not-is_equal.true) a b
       | else-not-is_equal way ↦ λ a b.
           ap (λ s. struck s.struck a b) way.strikes-is
-          ∙ upto_pass card part i p c.loop-pin.strikes.struck c.loop-pin.invariant (here ∙ ap not way.if-not-is_equal.false) a b
+          ∙ upto_pass (λ _ _. false) (unequal card part) i p c.loop-pin.strikes.struck c.loop-pin.invariant (here ∙ ap not way.if-not-is_equal.false) a b
     ]
+
+pub loop-input-preserved : goal.loop-input-preserved
+loop-input-preserved c =
+    let card = c.args.card.now in
+    let part = c.args.part.now in
+    upto_row (λ _ _. false) (unequal card part) card.inputs part.inputs (unequal_within card part) c.loop-input.input c.loop-pin.pin c.loop-pin.strikes.struck c.loop-pin.invariant c.loop-pin-test.false
 
 pub returns : goal.returns
 returns c =
     let card = c.args.card.now in
     let part = c.args.part.now in
-    let exact = upto_all card part c.loop-input.input c.loop-input.strikes.struck c.loop-input.invariant c.loop-input-test.false in
+    let exact = upto_all (λ _ _. false) (unequal card part) card.inputs part.inputs (unequal_within card part) c.loop-input.input c.loop-input.strikes.struck c.loop-input.invariant c.loop-input-test.false in
     record {
       exact = exact;
       spares = λ n w keeps i li. exact i (w i) ∙ unequal_not card part i (w i) (keeps i li);

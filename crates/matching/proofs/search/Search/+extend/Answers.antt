@@ -1,6 +1,7 @@
 use Rattle.std.proofs.Common.{◌≡◌, None, Some, arith, pow_mono}
 use borrow.Author.Count.{below_more}
 use Rattle.matching.specs.Begun.{Barred}
+use Rattle.matching.proofs.Covering.{covered_barred}
 use Rattle.matching.proofs.Choosing.{grown, same_on, barred_on, within_on, whole, none_on, first_on, none_left}
 use Rattle.matching.proofs.search.Search.+extend.Goals as goal
 use Rattle.matching.proofs.search.Search.+extend.Goals.{in_default-2-via-in-None-1, in_default-2-via-in-Some-place+in-None-1}
@@ -9,6 +10,20 @@ pub returns-in-Some-clause-answer : goal.returns-in-Some-clause-answer
 returns-in-Some-clause-answer g t c =
     let done = c.in-Some.ensures in
     whole c.requires c.in-Some.wiring done.0 done.1 done.2
+
+pub loop-pin-preserved-then-is_covered : goal.loop-pin-preserved-then-is_covered
+loop-pin-preserved-then-is_covered g t c =
+    let same = g.R.RowKind.same in
+    let self = c.args.self.now in
+    let begun = c.args.begun.now in
+    let pin = c.loop-pin.pin in
+    let was = c.loop-pin.invariant in
+    let covered = rw (was.same.part, was.same.strikes) at (c.is_covered.ensures c.if-is_covered.true) in
+    record {
+      same = was.same;
+      past = below_more (Barred same self begun) pin was.past
+          (covered_barred same g.R.RowKind.weight g.met.R.RowKind.laws self begun c.requires pin (omega (arith, c.loop-pin-test.true, c.inputs-pin-end.ensures)) covered was.past);
+    }
 
 pub loop-pin-preserved : goal.loop-pin-preserved
 loop-pin-preserved g t c =

@@ -12,7 +12,7 @@ returns-then-is_struck-clause-answer g c = elim c.then-is_struck.branch [
   | then-is_struck-via-then-is_struck w ↦ search rules
   | then-is_struck-via-else-is_struck+then-not-takes w ↦ search rules
   | then-is_struck-via-else-is_struck+else-not-takes+then-not-settle w ↦
-      differs_barred c.requires.begun c.args.pin c.requires.open (rw c.len-input.ensures at (rw w.if-not-settle.true at w.settle.ensures.answer))
+      differs_barred c.requires.begun g.met.R.RowKind.laws.alike c.args.pin c.requires.open (rw c.len-input.ensures at (rw w.if-not-settle.true at w.settle.ensures.answer))
 ]
 
 pub returns-clause-answer : goal.returns-clause-answer
