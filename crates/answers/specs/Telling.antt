@@ -2,7 +2,7 @@
 use Rattle.std.specs.Prelude.{take, Ok, Err, Result}
 use Rattle.refusals.specs.Numbers.{number}
 use Rattle.refusals.specs.declared.refusal.Refusal.{Refusal}
-use Rattle.ledger.specs.Law.{Answer, done, refused, proposed}
+use Rattle.ledger.specs.Questions.{Answer, done, refused, proposed}
 use Rattle.inventory.specs.declared.proposal.Proposal.{Proposal}
 use Rattle.answers.specs.declared.reply.Reply.{Reply}
 use Rattle.answers.specs.declared.reply.Reply.TheVariants.{Done, Fit}

@@ -1,3 +1,4 @@
+//! The text of an answer to a line, to the byte.
 #![tactic(auto)]
 
 mod reply;

@@ -2,7 +2,7 @@ ghost use Rattle.std.specs.Prelude.{◌≡◌, ◌≤◌, length};
 ghost use Rattle.answers.specs.Spelling.{text_of};
 ghost use Rattle.answers.specs.Telling.{told, offers};
 ghost use Rattle.refusals.specs.Numbers.{number};
-ghost use Rattle.ledger.specs.Law.{done, refused};
+ghost use Rattle.ledger.specs.Questions.{done, refused};
 
 use crate::reply::Reply;
 use inventory::Proposal;
@@ -45,7 +45,7 @@ fn refusal_text(refusal: Refusal) -> Text
     text
 }
 
-// What a line is answered, with its newline. Memory of 64 bytes is always enough for it.
+/// What a line is answered, with its newline. Memory of 64 bytes is always enough for it.
 pub fn answer_text(answer: &Result<Reply, Refusal>) -> Text
     ensures text { result ≡ text_of (told answer.now) }
     ensures short { length result ≤ 64 }

@@ -6,7 +6,7 @@ use Rattle.std.proofs.lemmas.Option.{none-some}
 use Rattle.std.proofs.lemmas.Bool.{cases_eq, cases_lt}
 use Rattle.tables.specs.Wirings.{pin}
 use Rattle.ledger.specs.Ledger.{Part}
-use Rattle.ledger.specs.Law.{Serves}
+use Rattle.ledger.specs.Questions.{Serves}
 use Rattle.ledger.proofs.Serving.{no_part_over, proposes_among, proposes_over}
 use Rattle.inventory.specs.Slots.{At, Held, HeldBelow, has, share}
 use Rattle.inventory.specs.Fitting.{Best, Worth}

@@ -4,7 +4,7 @@ use Rattle.tables.specs.Agreement.{Agree}
 use Rattle.lists.specs.Counting.{AtMost}
 use Rattle.lists.specs.Spread.{spread}
 use Rattle.ledger.specs.Ledger.{Part}
-use Rattle.ledger.specs.Law.{lists, Spreads}
+use Rattle.ledger.specs.Questions.{lists, Spreads}
 use Rattle.inventory.specs.Slots.{Held, has}
 use Rattle.inventory.specs.declared.label.Label.{Label}
 use Rattle.inventory.proofs.Places.{part_at, at_label, at_number}

@@ -5,7 +5,7 @@ use Rattle.refusals.specs.Numbers.{number}
 use Rattle.refusals.specs.declared.refusal.Refusal.{Refusal}
 use Rattle.tables.specs.Wirings.{pin}
 use Rattle.ledger.specs.Ledger.{Part}
-use Rattle.ledger.specs.Law.{NoPart, Proposes}
+use Rattle.ledger.specs.Questions.{NoPart, Proposes}
 use Rattle.inventory.specs.declared.label.Label.{Label}
 use Rattle.inventory.specs.declared.proposal.Proposal.{Proposal}
 

@@ -1,18 +1,26 @@
 -- Slots and the row memory under them.
-use Rattle.std.specs.Prelude.{◌≡◌, ℕ, ◌+◌, ◌*◌, ◌^◌, ◌<◌, Bool, false, not, List, ◌++◌, length, take, drop, is_some, Some, None, count_by, Option, ◌==◌, nat_le, slice_index_or}
+use Rattle.std.specs.Prelude.{◌≡◌, ℕ, ◌+◌, ◌*◌, ◌^◌, ◌<◌, Bool, false, not, List, ◌++◌, length, take, drop, is_some, Some, None, count_by, Option, ◌==◌, nat_eq, nat_le, slice_index_or}
 use Rattle.refusals.specs.Due.{Due, none, first}
 use Rattle.ledger.specs.Ledger.{Part, any}
 use Rattle.inventory.specs.declared.label.Label.{Label}
 
+-- whether the number and the number of inputs of a slot's part pass a test
+abbrev pub passes : (ℕ → ℕ → Bool) → Option Label → Bool
+passes test None = false
+passes test (Some label) = test label.number label.inputs
+
 -- whether a slot has a part of this number
 abbrev pub has : ℕ → Option Label → Bool
-has number None = false
-has number (Some label) = label.number == number
+has number slot = passes (λ n inputs. nat_eq n number) slot
 
 -- whether two slots have parts of one number
 abbrev pub share : Option Label → Option Label → Bool
 share None slot = false
 share (Some label) slot = has label.number slot
+
+-- whether a slot has a part whose number and number of inputs pass a test
+abbrev pub some_slot : List (Option Label) → (ℕ → ℕ → Bool) → Bool
+some_slot slots test = any (passes test) slots
 
 -- whether a part of this number has a slot
 abbrev pub labelled : ℕ → List (Option Label) → Bool

@@ -1,6 +1,6 @@
 ghost use Rattle.std.specs.Prelude.{◌≤◌};
 
-// What a slot in use says of its part: the number, and how many inputs it has.
+/// What a slot in use says of its part: the number, and how many inputs it has.
 #[derive(Clone, Copy)]
 pub struct Label {
     pub number: u32,

@@ -1,3 +1,4 @@
+//! The shelf: parts that are entered, dropped and fitted to cards, in row memory that the caller keeps.
 #![tactic(auto)]
 
 mod label;

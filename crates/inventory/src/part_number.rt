@@ -4,7 +4,7 @@ ghost use Rattle.ledger.specs.Refused.{number_due};
 
 use refusals::Refusal;
 
-// Whether this is the number of a part, from 1 to 9999.
+/// Whether this is the number of a part, from 1 to 9999.
 pub fn check_number(number: u32) -> Result<(), Refusal>
     ensures { Outcome (number_due number) (λ _. (1 ≤ number) × (number ≤ 9999)) result }
 {

@@ -13,7 +13,7 @@ fn copy_rows<R: RowKind>(stretch: &mut [R], rows: &[R])
     stretch[..rows.len()].copy_from_slice(rows);
 }
 
-// Writes rows into the front of a slot's stretch of 1,024 rows.
+/// Writes rows into the front of a slot's stretch of 1,024 rows.
 pub fn store<R: RowKind>(memory: &mut [R], slot: usize, rows: &[R])
     requires slot_few { slot < 64 }
     requires stretch_in { (slot + 1) * 1024 ≤ length memory.old }
@@ -24,7 +24,7 @@ pub fn store<R: RowKind>(memory: &mut [R], slot: usize, rows: &[R])
     copy_rows(&mut memory[start..start + 1024], rows);
 }
 
-// The part of a slot: its rows are the front of the slot's stretch.
+/// The part of a slot: its rows are the front of the slot's stretch.
 pub fn stored<R: RowKind>(memory: &[R], slot: usize, inputs: usize) -> Table<'_, R>
     requires slot_few { slot < 64 }
     requires stretch_in { (slot + 1) * 1024 ≤ length memory.now }

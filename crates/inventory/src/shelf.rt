@@ -9,8 +9,8 @@ mod slots;
 mod spreading;
 mod stocking;
 
-// A shelf of 1 to 64 slots. Each slot is free or has a part, and no number stands twice. The rows of the parts lie in
-// memory that is lent to each call, 1,024 rows a slot.
+/// A shelf of 1 to 64 slots. Each slot is free or has a part, and no number stands twice. The rows of the parts lie in
+/// memory that is lent to each call, 1,024 rows a slot.
 #[derive(Drop)]
 pub struct Shelf {
     count: usize,

@@ -2,5 +2,7 @@ pub mod Standing
 pub mod Dues
 pub mod After
 mod Orders
-pub mod One
 pub mod Serving
+pub mod Questions
+pub mod One
+pub mod Rights

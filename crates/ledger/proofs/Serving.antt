@@ -3,7 +3,7 @@ use Rattle.std.proofs.Common.{◌≡◌, ℕ, ◌<◌, ◌⊎◌, Bool, List, ap
 use Rattle.tables.specs.Wirings.{Alike}
 use Rattle.tables.proofs.Alikes.{agree_alike, other_alike, before_alike}
 use Rattle.ledger.specs.Ledger.{Part}
-use Rattle.ledger.specs.Law.{NoPart, Proposes, Serves, Spreads}
+use Rattle.ledger.specs.Questions.{NoPart, Proposes, Serves, Spreads}
 
 module _ {R P : Type 0} (same : R → R → Bool) (list : P → ℕ → List R → ℕ → List ℕ) (inputs : ℕ) (card : List R) where
   -- a part of the one kind that stays the lowest is proposed of the other kind too

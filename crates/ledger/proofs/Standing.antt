@@ -54,9 +54,6 @@ module _ {R : Type 0} where
     pub stands_mem : (p : Part R) → Mem p parts → p.number ≡ number → stands number parts ≡ true
     stands_mem p m e = any_mem (named number) p parts m (eq-eqb p.number number e)
 
-    pub stands_some : stands number parts ≡ true → (p : Part R) × Mem p parts × (p.number ≡ number)
-    stands_some on = let found = any_some (named number) parts on in (found.0, found.1, eqb-true found.0.number number found.2)
-
     pub stands_none : stands number parts ≡ false → (p : Part R) → Mem p parts → p.number ≡ number → ⊥
     stands_none off p m = eqb-false p.number number (any_none (named number) parts off p m)
 

@@ -1,4 +1,5 @@
 pub mod Refused
 pub mod Ledger
+pub mod Questions
 pub mod Law
 pub mod Fixed

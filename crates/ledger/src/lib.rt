@@ -1,3 +1,4 @@
+//! Which parts should be on a shelf after a list of calls, and what each call is to be answered: the law of runs.
 #![tactic(auto)]
 
 mod fixed;

@@ -1,4 +1,2 @@
 pub mod Lines
-pub mod Chain
-pub mod Telling
 pub mod One

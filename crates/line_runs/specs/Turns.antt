@@ -1,12 +1,12 @@
 -- Lists of calls in which lines stand.
-use Rattle.std.specs.Prelude.{◌≡◌, ℕ, ◌<◌, ◌≤◌, ◌⊎◌, List, [], ◌∷◌, ◌++◌, sum_by, length, take, drop, Ok, Err}
+use Rattle.std.specs.Prelude.{◌≡◌, ℕ, ◌<◌, ◌≤◌, ◌⊎◌, List, ◌++◌, length, drop, Ok, Err}
 use Rattle.refusals.specs.Numbers.{number}
-use Rattle.rows.specs.declared.on_off.OnOff.{OnOff}
-use Rattle.ledger.specs.Ledger.{Call, unread}
-use Rattle.ledger.specs.Law.{Answer, refused}
+use Rattle.ledger.specs.Ledger.{unread}
+use Rattle.ledger.specs.Questions.{Answer, refused}
 use Rattle.runs.specs.Transcript.{said, told}
+use Rattle.runs.specs.Entries.{Entries}
 use Rattle.answers.specs.Spelling.{text_of}
-use Rattle.shelf_line.specs.Lines.{ReadAs}
+use Rattle.shelf_line.specs.Lines.{ReadAs, OnOffCall}
 use Rattle.line_runs.specs.declared.turn.Turn.{Turn}
 use Rattle.line_runs.specs.declared.turn.Turn.TheVariants as turn
 use Rattle.line_runs.specs.declared.turn.TurnAnswer.{TurnAnswer}
@@ -14,7 +14,7 @@ use Rattle.line_runs.specs.declared.turn.TurnAnswer.TheVariants as answer
 
 -- what is asked of an on/off shelf: a call, or a line with its pile and so many bytes of answer memory
 pub data Asked (P : Type 0) : Type 0 where
-  call : Call OnOff P → Asked P
+  call : OnOffCall P → Asked P
   line : List ℕ → P → (room : ℕ) → Asked P
 
 -- what a turn of the program asks
@@ -27,19 +27,11 @@ abbrev pub room : {P : Type 0} → Asked P → ℕ
 room (call c) = 0
 room (line text pile n) = n
 
-abbrev pub rooms : {P : Type 0} → List (Asked P) → ℕ
-rooms turns = sum_by room turns
-
 -- the call that it is: a line with less than 64 bytes of answer memory is a call that is refused with 13, and any other
 -- the call that it is read as
-abbrev pub IsCall : {P : Type 0} → Asked P → Call OnOff P → Type 0
+abbrev pub IsCall : {P : Type 0} → Asked P → OnOffCall P → Type 0
 IsCall (call c) asked = asked ≡ c
 IsCall (line text pile n) asked = ((n < 64) × (asked ≡ unread 13)) ⊎ ((64 ≤ n) × ReadAs pile text asked)
-
-abbrev pub AreCalls : {P : Type 0} → List (Asked P) → List (Call OnOff P) → Type 0
-AreCalls [] [] = Unit {0}
-AreCalls (x ∷ xs) (c ∷ calls) = IsCall x c × AreCalls xs calls
-AreCalls _ _ = ⊥
 
 -- what an answer of the program tells. That of a line is its text in the front of the line's answer memory, and what comes
 -- after is as it was; where the line is refused with 13, nothing is written
@@ -51,10 +43,10 @@ Tells (line text pile n) (answer.Line (Err reason)) memory memory' tells =
     (n < 64) × (number reason ≡ 13) × (tells ≡ refused 13) × (memory' ≡ memory)
 Tells _ _ memory memory' tells = ⊥
 
--- the answer memory of the turns lies one after the other, and what comes after all of it is as it was
-abbrev pub AllTell : {P : Type 0} → List (Asked P) → List TurnAnswer → (memory memory' : List ℕ) → List Answer → Type 0
-AllTell [] [] memory memory' [] = memory' ≡ memory
-AllTell (x ∷ xs) (result ∷ results) memory memory' (a ∷ rest) =
-    Tells x result (take (room x) memory) (take (room x) memory') a
-    × AllTell xs results (drop (room x) memory) (drop (room x) memory') rest
-AllTell _ _ memory memory' _ = ⊥
+-- turns as they stand in a list that is played
+abbrev pub turn_kind : (P : Type 0) → Entries (Turn P) TurnAnswer (OnOffCall P)
+turn_kind P = record {
+  IsCall = λ x c. IsCall (asks x) c;
+  bytes = record { room = λ x. room (asks x); Tells = λ x result memory memory' tells. Tells (asks x) result memory memory' tells };
+  words = record { room = λ x. 0; Tells = λ x result words words' tells. words' ≡ words };
+}

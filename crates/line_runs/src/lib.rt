@@ -1,10 +1,10 @@
+//! Lists of calls in which lines stand.
 #![tactic(auto)]
 
 mod fixed;
-mod playing;
-mod rooms;
+#[cfg(test)]
+mod tests;
 mod turn;
 
 pub use fixed::law_fixes_lines;
-pub use playing::play_turns;
 pub use turn::{Turn, TurnAnswer};

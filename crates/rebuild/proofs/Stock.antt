@@ -10,10 +10,11 @@ use Rattle.tables.specs.declared.table.Table.{Table}
 use Rattle.tables.specs.Wirings.{pin}
 use Rattle.lists.specs.Counting.{Mem}
 use Rattle.lists.proofs.Members.{mem-get_or}
-use Rattle.ledger.specs.Ledger.{Part, unless, due, after, ledger}
-use Rattle.ledger.specs.Law.{Proposes}
+use Rattle.ledger.specs.Ledger.{Part, unless, change_due, after, ledger}
+use Rattle.ledger.specs.Questions.{Proposes}
 use Rattle.ledger.specs.Fixed.{Once}
 use Rattle.ledger.specs.Refused.{enter_due}
+use Rattle.ledger.proofs.Questions.{nothing_asked, nothing_lawful}
 use Rattle.ledger.proofs.After.{once_from}
 use Rattle.ledger.proofs.Standing.{mem_once}
 use Rattle.inventory.specs.Slots.{labelled, full, memory_due}
@@ -69,9 +70,9 @@ module _ {R : Type 0} where
   module _ (slots : ℕ) where
     -- a part that is not refused stands too
     pub stand_more : (before : List (Stocked R)) (part : Stocked R) → AllStand slots before
-        → due slots (stood before) (entering part) ≡ none → AllStand slots (before ++ part ∷ [])
+        → change_due slots (stood before) (entering part) ≡ none → AllStand slots (before ++ part ∷ [])
     stand_more before part stand nothing =
-        ap (ledger slots) (map_push entering before part) ∙ ledger_more (λ (_ _ : R). Bool.true) (λ _ _ _ _. []) slots [] (map entering before) (entering part)
+        ap (ledger slots) (map_push entering before part) ∙ ledger_more slots [] (map entering before) (entering part)
         ∙ ap (λ parts. after slots parts (entering part)) stand ∙ granted _ (entry part ∷ stood before) (stood before) nothing
         ∙ sym (stood_more [] before part)
 
@@ -103,14 +104,14 @@ module _ {R : Type 0} where
     Enters = Entered wanted part.number part.table.inputs part.table.rows.now shelf memory
 
     -- what the shelf refuses a part with, the ledger does too
-    due_same : (parts : List (Part R)) → Holds shelf.slots memory parts → due shelf.count parts (entering part) ≡ wanted
+    due_same : (parts : List (Part R)) → Holds shelf.slots memory parts → change_due shelf.count parts (entering part) ≡ wanted
     due_same parts h = enter_same h shelf.count long part.number part.table.inputs (length part.table.rows.now)
 
     -- the shelf that a part was entered on holds it too
     entered_holds : (shelf' : Shelf) (memory' : List R) → Enters (Ok tt) shelf' memory' → (parts : List (Part R)) → Holds shelf.slots memory parts
         → Holds shelf'.slots memory' (entry part ∷ parts)
     entered_holds shelf' memory' so parts h =
-        let leads = does_leads same (λ (_ : Unit {0}) _ _ _. []) shelf memory long (entering part) (answered (λ _. Done) (Ok (tt {0}))) shelf' memory' (Ok (tt {0}), refl, so) in
+        let leads = does_leads nothing_asked nothing_lawful shelf memory long (entering part) (answered (λ _. Done) (Ok (tt {0}))) shelf' memory' (Ok (tt {0}), refl, so) in
         subst (λ standing. Holds shelf'.slots memory' standing)
         (granted _ (entry part ∷ parts) parts (due_same parts h ∙ so.0))
         (leads.1 parts h).1
@@ -121,8 +122,8 @@ module _ {R : Type 0} where
       next : take (k + 1) stock ≡ take k stock ++ part ∷ []
       next = take_more stock k part lt ∙ ap (λ p. take k stock ++ p ∷ []) (sym is)
 
-      due_is : due (length stock) (stood (take k stock)) (entering part) ≡ wanted
-      due_is = ap (λ n. due n (stood (take k stock)) (entering part)) (sym count) ∙ due_same (stood (take k stock)) held
+      due_is : change_due (length stock) (stood (take k stock)) (entering part) ≡ wanted
+      due_is = ap (λ n. change_due n (stood (take k stock)) (entering part)) (sym count) ∙ due_same (stood (take k stock)) held
 
       pub holds_next : (shelf' : Shelf) (memory' : List R) → Enters (Ok tt) shelf' memory' → Holds shelf'.slots memory' (stood (take (k + 1) stock))
       holds_next shelf' memory' so =
@@ -145,10 +146,10 @@ module _ {R : Type 0} where
   -- each part of the stock is entered after those before it
   abbrev AllEnter : ℕ → List (Part R) → List (Stocked R) → Type 0
   AllEnter slots parts [] = Unit {0}
-  AllEnter slots parts (part ∷ stock) = (due slots parts (entering part) ≡ none) × AllEnter slots (entry part ∷ parts) stock
+  AllEnter slots parts (part ∷ stock) = (change_due slots parts (entering part) ≡ none) × AllEnter slots (entry part ∷ parts) stock
 
   none_refused : (slots : ℕ) (parts : List (Part R)) (stock before after : List (Stocked R)) (part : Stocked R) → AllEnter slots parts stock → stock ≡ before ++ part ∷ after
-      → due slots (stood_after parts before) (entering part) ≡ none
+      → change_due slots (stood_after parts before) (entering part) ≡ none
   none_refused slots parts [] [] after part enters e = absurd (omega (arith, ap length e))
   none_refused slots parts [] (b ∷ before) after part enters e = absurd (omega (arith, ap length e))
   none_refused slots parts (q ∷ stock) [] after part enters e = let same : q ≡ part = cc in rw same at enters.0
@@ -173,9 +174,9 @@ module _ {R : Type 0} where
   no_means stock (Err Output) (inr e) some few enters = absurd e
 
   pub no_means_two : (a b : Stocked R) (result : Result (Unit {0}) Failure) → IfErr result (NotShown (a ∷ b ∷ []))
-      → due 2 [] (entering a) ≡ none → due 2 (entry a ∷ []) (entering b) ≡ none → IfErr result NoMeans
+      → change_due 2 [] (entering a) ≡ none → change_due 2 (entry a ∷ []) (entering b) ≡ none → IfErr result NoMeans
   no_means_two a b result shown first second = no_means (a ∷ b ∷ []) result shown refl refl (first, (second, tt))
 
   pub no_means_three : (a b c : Stocked R) (result : Result (Unit {0}) Failure) → IfErr result (NotShown (a ∷ b ∷ c ∷ []))
-      → due 3 [] (entering a) ≡ none → due 3 (entry a ∷ []) (entering b) ≡ none → due 3 (entry b ∷ entry a ∷ []) (entering c) ≡ none → IfErr result NoMeans
+      → change_due 3 [] (entering a) ≡ none → change_due 3 (entry a ∷ []) (entering b) ≡ none → change_due 3 (entry b ∷ entry a ∷ []) (entering c) ≡ none → IfErr result NoMeans
   no_means_three a b c result shown first second third = no_means (a ∷ b ∷ c ∷ []) result shown refl refl (first, (second, (third, tt)))

@@ -3,7 +3,7 @@ use Rattle.std.specs.Prelude.{◌≡◌, ℕ, Bool, List, length, Option, Some, 
 use Rattle.tables.specs.Wirings.{pin}
 use Rattle.lists.specs.Counting.{Mem}
 use Rattle.ledger.specs.Ledger.{Part}
-use Rattle.ledger.specs.Law.{NoPart, Proposes}
+use Rattle.ledger.specs.Questions.{NoPart, Proposes}
 use Rattle.trial.specs.Trials.{Found}
 use Rattle.symmetry.specs.Symmetry.{Classes}
 use Rattle.rebuild.specs.Stocking.{stood, AllStand}

@@ -2,7 +2,7 @@
 use Rattle.std.specs.Prelude.{◌≡◌, ℕ, ◌<◌, ◌⊎◌, List, [], ◌∷◌, ◌++◌, map, length}
 use Rattle.refusals.specs.Due.{refusal}
 use Rattle.refusals.specs.Numbers.{number}
-use Rattle.ledger.specs.Ledger.{Part, Call, enter, due, ledger}
+use Rattle.ledger.specs.Ledger.{Part, Call, enter, change_due, ledger}
 use Rattle.rebuild.specs.declared.failure.Failure.{Failure}
 use Rattle.rebuild.specs.declared.failure.Failure.TheVariants.{Usage, NotRows, NotAPart, Refused, StockSize, Memory, Output}
 use Rattle.rebuild.specs.declared.failure.Side.TheVariants.{Card, Readings, Part as PartSide}
@@ -21,8 +21,8 @@ module _ {R : Type 0} where
   abbrev pub stood : List (Stocked R) → List (Part R)
   stood stock = stood_after [] stock
 
-  -- a part is entered; no call of this list brings a pile
-  abbrev pub entering : Stocked R → Call R (Unit {0})
+  -- a part is entered; nothing is asked
+  abbrev pub entering : Stocked R → Call R ⊥
   entering part = enter part.number part.table.inputs part.table.rows.now
 
   -- the ledger refuses none of these parts
@@ -37,7 +37,7 @@ module _ {R : Type 0} where
     pub place : stock ≡ before ++ part ∷ after
     pub named : part.number ≡ n
     pub stand : AllStand slots before
-    pub due : due slots (stood before) (entering part) ≡ refusal reason
+    pub due : change_due slots (stood before) (entering part) ≡ refusal reason
 
   -- why a stock does not stand: it has no part or more than 64, or a part is refused, or there is no memory
   abbrev pub NotStocked : List (Stocked R) → Failure → Type 0

@@ -31,7 +31,7 @@ const RIGHT: Drive = Drive {
     hold: 12,
 };
 
-// A card of three inputs, two of which may be exchanged. The sample is wired wrong at first.
+/// A card of three inputs, two of which may be exchanged. The sample is wired wrong at first.
 pub fn repair_of_on_off(rt: &HostRuntime) -> Result<(), Failure>
     ensures { IfErr result NoMeans }
 {
@@ -115,7 +115,7 @@ fn show_drives<'a>(
     show_repair(rt, &job)
 }
 
-// A card whose rows are drives. Rests are the same whatever their holds.
+/// A card whose rows are drives. Rests are the same whatever their holds.
 pub fn repair_of_drives(rt: &HostRuntime) -> Result<(), Failure>
     ensures { IfErr result NoMeans }
 {

@@ -6,7 +6,7 @@ use refusals::Refusal;
 use std::alloc::{AllocError, AllocFailed};
 use std::{fmt, io};
 
-// Which argument is meant: the card, the readings, or the part of this number.
+/// Which argument is meant: the card, the readings, or the part of this number.
 #[derive(Clone, Copy, Debug)]
 pub enum Side {
     Card,
@@ -14,12 +14,12 @@ pub enum Side {
     Part(u32),
 }
 
-// Why no answer was printed.
+/// Why no answer was printed.
 #[derive(Debug, Drop)]
 pub enum Failure {
     Usage,
     NotRows(Side),
-    // The part that comes at this place, counted from 1.
+    /// The part that comes at this place, counted from 1.
     NotAPart(usize),
     Refused(Side, Refusal),
     StockSize,

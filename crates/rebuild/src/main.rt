@@ -1,3 +1,4 @@
+//! One repair from stock to sheet.
 #![tactic(auto)]
 
 mod examples;

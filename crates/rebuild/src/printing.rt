@@ -97,7 +97,7 @@ fn show_classes(rt: &HostRuntime, classes: &[u8]) -> io::Result<()> {
     Ok(())
 }
 
-// One repair from beginning to end.
+/// One repair from beginning to end.
 pub fn show_repair<R: Show>(rt: &HostRuntime, job: &Job<R>) -> Result<(), Failure>
     ensures stand { IfOk result (λ _. AllStand (length job.now.stock.now) job.now.stock.now) }
     ensures failed { IfErr result (NotShown job.now.stock.now) }

@@ -1,5 +1,5 @@
 ghost use Rattle.std.specs.Prelude.{IfOk, IfErr};
-ghost use Rattle.ledger.specs.Law.{list_by};
+ghost use Rattle.ledger.specs.Questions.{list_by};
 ghost use Rattle.rebuild.specs.Stocking.{NotStocked};
 ghost use Rattle.rebuild.specs.Repairs.{Repairs};
 
@@ -12,7 +12,7 @@ use signatures::Signature;
 use std::alloc::Global;
 use symmetry::classes_of;
 
-// What came of a repair: what the bench made of the fit, if a part agrees, and the classes of the card's inputs.
+/// What came of a repair: what the bench made of the fit, if a part agrees, and the classes of the card's inputs.
 #[derive(Clone, Copy)]
 pub struct Repair {
     pub bench: Option<Bench>,
@@ -20,6 +20,7 @@ pub struct Repair {
 }
 
 impl Repair {
+    /// Does the repair: fits the card to the stock, tries the wiring, prints the sheet and reads it back.
     pub fn of<R: RowKind, P: Signature<R>>(
         heap: Global,
         pile: &P,

@@ -3,6 +3,7 @@ ghost use Rattle.rebuild.specs.Requests.{Asks};
 
 use programs::asks_for_help;
 
+/// What `--help` prints.
 pub const USAGE: &str = "usage: rebuild [CARD READINGS N=ROWS..]
 
 Rebuilds a burnt card from stock: enters the parts, fits the card, tries the wiring by the readings of a wired
@@ -15,7 +16,7 @@ With no arguments two repairs are shown, one with rows of on and off and one wit
 
 example: rebuild 00110101 00110101 7=0110 12=00011011";
 
-// What the program is asked.
+/// What the program is asked.
 #[derive(Clone, Copy)]
 pub enum Request<'a> {
     Help,
@@ -28,7 +29,7 @@ pub enum Request<'a> {
 }
 
 impl<'a> Request<'a> {
-    // The request that the arguments make, if they make one.
+    /// The request that the arguments make, if they make one.
     pub fn of(args: &'a [String]) -> Option<Request<'a>>
         ensures { Asks (map string_bytes args.now) result }
     {

@@ -6,7 +6,7 @@ use rows::RowKind;
 use std::alloc::{AllocError, Global};
 use tables::{Table, Wiring};
 
-// What a sample reads where a part stands in by a wiring: in each row what the part has in the row that it is carried to.
+/// What a sample reads where a part stands in by a wiring: in each row what the part has in the row that it is carried to.
 pub fn readings_of<R: RowKind>(
     heap: Global,
     part: &Table<R>,

@@ -4,7 +4,7 @@ use wire_sheet::Sheet;
 
 mod printing;
 
-// A sheet as it was printed, and what was read of it.
+/// A sheet as it was printed, and what was read of it.
 #[derive(Clone, Copy)]
 pub struct Printed {
     text: [u8; 47],

@@ -4,7 +4,7 @@ ghost use Rattle.rebuild.specs.Shown.{shown_text, on_off_shown, drive_shown};
 use rows::{Direction, Drive, OnOff, RowKind};
 use std::fmt;
 
-// A row as a person reads it.
+/// A row as a person reads it.
 #[derive(Clone, Copy)]
 pub enum Shown {
     Off,
@@ -28,12 +28,13 @@ impl fmt::Display for Shown {
     }
 }
 
-// A kind of row that a person can read.
+/// A kind of row that a person can read.
 pub trait Show: RowKind {
     ghost use Rattle.rebuild.specs.declared.shown.Shown.{Shown};
 
     ghost shows: { Self → Shown };
 
+    /// How this row is shown.
     fn shown(&self) -> Shown
         ensures { result ≡ shows self.now };
 }
@@ -41,6 +42,7 @@ pub trait Show: RowKind {
 impl Show for OnOff {
     ghost shows = { on_off_shown };
 
+    /// How this row is shown.
     fn shown(&self) -> Shown {
         match self {
             OnOff::Off => Shown::Off,
@@ -52,6 +54,7 @@ impl Show for OnOff {
 impl Show for Drive {
     ghost shows = { drive_shown };
 
+    /// How this row is shown.
     fn shown(&self) -> Shown {
         match self.direction {
             Direction::Rest => Shown::Rest(self.hold),

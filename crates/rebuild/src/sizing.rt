@@ -9,14 +9,14 @@ use std::alloc::Global;
 use tables::Table;
 use typed_rows::table_of;
 
-// The table of these rows; where there is none, this side is refused.
+/// The table of these rows; where there is none, this side is refused.
 pub fn sized(side: Side, rows: &[OnOff]) -> Result<Table<'_, OnOff>, Failure>
     ensures { IsSized side rows.now result }
 {
     table_of(rows).map_err(|refusal| Failure::Refused(side, refusal))
 }
 
-// The parts as tables.
+/// The parts as tables.
 pub fn stocked(heap: Global, parts: &[TypedPart]) -> Result<Vec<Stocked<'_, OnOff>>, Failure>
     ensures { AreSized parts.now result }
 {

@@ -1,6 +1,6 @@
 ghost use Rattle.std.specs.Prelude.{◌≡◌, ◌*◌, length, IfOk, IfErr};
 ghost use Rattle.lists.specs.Counting.{Mem};
-ghost use Rattle.ledger.specs.Law.{list_by};
+ghost use Rattle.ledger.specs.Questions.{list_by};
 ghost use Rattle.inventory.specs.Fitting.{Best};
 ghost use Rattle.runs.specs.Holding.{Holds};
 ghost use Rattle.rebuild.specs.Stocking.{stood, AllStand, NotStocked};
@@ -48,7 +48,7 @@ fn fit_stock<R: RowKind, P: Signature<R>>(
     Ok(shelf.fit(memory, card.inputs, card.rows, pile).ok())
 }
 
-// The same, with the shelf's memory of its own.
+/// The same, with the shelf's memory of its own.
 pub fn proposed<R: RowKind, P: Signature<R>>(
     heap: Global,
     pile: &P,

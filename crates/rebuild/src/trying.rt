@@ -35,7 +35,7 @@ fn try_wired<R: RowKind>(heap: Global, proposal: Proposal, job: &Job<R>) -> Resu
     Ok(tried)
 }
 
-// What fit proposed.
+/// What fit proposed.
 #[derive(Clone, Copy)]
 pub struct Fit {
     pub number: u32,
@@ -43,7 +43,7 @@ pub struct Fit {
     pub struck: usize,
 }
 
-// What came of a fit at the bench: what was wrong with the readings, if anything, and the sheet, if a trial passed.
+/// What came of a fit at the bench: what was wrong with the readings, if anything, and the sheet, if a trial passed.
 #[derive(Clone, Copy)]
 pub struct Bench {
     pub fit: Fit,
@@ -61,7 +61,7 @@ fn fit_of(proposal: &Proposal) -> Fit
     }
 }
 
-// Tries a proposal by the readings of the job, and where it fails and the sample is to be mended, once more.
+/// Tries a proposal by the readings of the job, and where it fails and the sample is to be mended, once more.
 pub fn try_fit<R: RowKind>(heap: Global, proposal: Proposal, job: &Job<R>) -> Result<Bench, Failure>
     requires { Serves R.RowKind.same job.now.card job.now.stock.now proposal }
     ensures benched { IfOk result (Benched R.RowKind.same job.now proposal) }

@@ -40,7 +40,7 @@ fn after_equals(text: &[u8]) -> Option<&[u8]>
     }
 }
 
-// A part as it was typed.
+/// A part as it was typed.
 #[derive(Drop)]
 pub struct TypedPart {
     pub number: u32,
@@ -79,7 +79,7 @@ fn typed_parts(heap: Global, texts: &[String]) -> Result<Vec<TypedPart>, Failure
     Ok(parts)
 }
 
-// A card, readings of a sample and parts as they were typed.
+/// A card, readings of a sample and parts as they were typed.
 #[derive(Drop)]
 pub struct Typed {
     pub card: Vec<OnOff>,
@@ -88,6 +88,7 @@ pub struct Typed {
 }
 
 impl Typed {
+    /// Reads a card, the readings and the parts of a stock from the arguments.
     pub fn of(heap: Global, card: &str, readings: &str, stock: &[String]) -> Result<Typed, Failure>
         ensures { ReadJob card.now readings.now (map string_bytes stock.now) result }
     {

@@ -1,8 +1,9 @@
 -- What a shelf and its memory hold.
-use Rattle.std.specs.Prelude.{◌≡◌, ℕ, Bool, List, length, is_some, count_by, Option}
+use Rattle.std.specs.Prelude.{◌≡◌, List, length, is_some, count_by, Option}
 use Rattle.lists.specs.Counting.{Mem}
-use Rattle.ledger.specs.Ledger.{Part, Call, due, after}
-use Rattle.ledger.specs.Law.{Answer, Right}
+use Rattle.ledger.specs.Ledger.{Part, Call, after}
+use Rattle.ledger.specs.Questions.{Answer, Questions}
+use Rattle.ledger.specs.Law.{RightFor}
 use Rattle.ledger.specs.Fixed.{Once}
 use Rattle.inventory.specs.Slots.{Held}
 use Rattle.inventory.specs.declared.label.Label.{Label}
@@ -16,8 +17,8 @@ pub record Holds {R : Type 0} (slots : List (Option Label)) (memory : List R) (p
   pub count : length parts ≡ count_by is_some slots
 
 -- whatever parts the shelf holds, the call is answered right for them, and then it holds the parts that the ledger has
-abbrev pub Leads : {R P : Type 0} → (R → R → Bool) → (P → ℕ → List R → ℕ → List ℕ) → Shelf → List R → Call R P → Answer → Shelf → List R → Type 0
-Leads {R} same list shelf memory call answer shelf' memory' =
+abbrev pub Leads : {R Q : Type 0} → Questions R Q → Shelf → List R → Call R Q → Answer → Shelf → List R → Type 0
+Leads {R} questions shelf memory call answer shelf' memory' =
     (shelf'.count ≡ shelf.count)
     × ((parts : List (Part R)) → Holds shelf.slots memory parts
-    → Right same list (due shelf.count parts call) parts call answer × Holds shelf'.slots memory' (after shelf.count parts call))
+    → RightFor questions shelf.count parts call answer × Holds shelf'.slots memory' (after shelf.count parts call))

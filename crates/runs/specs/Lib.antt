@@ -2,3 +2,4 @@ pub mod Transcript
 pub mod Calls
 pub mod Holding
 pub mod Playing
+pub mod Entries

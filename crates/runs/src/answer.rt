@@ -1,7 +1,7 @@
 use inventory::Proposal;
 use refusals::Refusal;
 
-// What a call that is not refused is answered: entering and dropping are done, fit proposes, and spread is a number.
+/// What a call that is not refused is answered: entering and dropping are done, fit proposes, and spread is a number.
 #[derive(Drop)]
 pub enum Grant {
     Done,
@@ -9,4 +9,5 @@ pub enum Grant {
     Spread(u32),
 }
 
+/// What a call is answered: what it is granted, or why it is refused.
 pub type Answer = Result<Grant, Refusal>;

@@ -1,4 +1,6 @@
-// What is asked of a shelf. A fit and a spread bring their pile.
+use crate::question::Question;
+
+/// What is asked of a shelf: to enter or to drop a part, or a question.
 #[derive_where(Clone, Copy)]
 pub enum Call<'a, R, P> {
     Enter {
@@ -9,15 +11,5 @@ pub enum Call<'a, R, P> {
     Drop {
         number: u32,
     },
-    Fit {
-        inputs: usize,
-        card: &'a [R],
-        pile: &'a P,
-    },
-    Spread {
-        number: u32,
-        inputs: usize,
-        card: &'a [R],
-        pile: &'a P,
-    },
+    Ask(Question<'a, R, P>),
 }

@@ -1,5 +1,6 @@
-ghost use Rattle.ledger.specs.Law.{list_by};
+ghost use Rattle.ledger.specs.Questions.{questions_by};
 ghost use Rattle.shelf_line.specs.Lines.{Answers};
+ghost use Rattle.rows.specs.Kinds.{on_off_same};
 
 use crate::obeying::obey;
 use answers::answer_text;
@@ -11,7 +12,7 @@ use signatures::Signature;
 // Every answer has room in so many bytes.
 const LEAST_ROOM: usize = 64;
 
-// Does what a line asks of the shelf, writes the answer into the front of the room for it, and answers its length.
+/// Does what a line asks of the shelf, writes the answer into the front of the room for it, and answers its length.
 pub fn answer_line<P: Signature<OnOff>>(
     shelf: &mut Shelf,
     memory: &mut [OnOff],
@@ -19,7 +20,7 @@ pub fn answer_line<P: Signature<OnOff>>(
     line: &[u8],
     room: &mut [u8],
 ) -> Result<usize, Refusal>
-    ensures { Answers (list_by P.Signature.count P.Signature.value) pile.now line.now shelf.old memory.old room.old result shelf.new memory.new room.new }
+    ensures { Answers (questions_by on_off_same P.Signature.count P.Signature.value) pile.now line.now shelf.old memory.old room.old result shelf.new memory.new room.new }
 {
     if room.len() < LEAST_ROOM {
         return Err(Refusal::MemoryTooShort);

@@ -1,3 +1,4 @@
+//! The line call: a line is read, does what it asks for and is answered.
 #![tactic(auto)]
 
 mod answering;

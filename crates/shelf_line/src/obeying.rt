@@ -1,9 +1,10 @@
 ghost use Rattle.std.specs.Prelude.{◌≡◌, ◌≤◌, List, length, take, map};
 ghost use Rattle.rows.specs.declared.on_off.OnOff.{OnOff};
 ghost use Rattle.typed_rows.specs.Reading.{digit};
-ghost use Rattle.ledger.specs.Law.{list_by};
+ghost use Rattle.ledger.specs.Questions.{questions_by};
 ghost use Rattle.answers.specs.Telling.{told};
 ghost use Rattle.shelf_line.specs.Lines.{Obeys};
+ghost use Rattle.rows.specs.Kinds.{on_off_same};
 
 use answers::Reply;
 use inventory::Shelf;
@@ -44,14 +45,14 @@ fn rows_of(digits: &[u8]) -> [OnOff; MOST_ROWS]
     rows
 }
 
-// Does what a line asks of the shelf.
+/// Does what a line asks of the shelf.
 pub fn obey<P: Signature<OnOff>>(
     shelf: &mut Shelf,
     memory: &mut [OnOff],
     pile: &P,
     line: &[u8],
 ) -> Result<Reply, Refusal>
-    ensures { Obeys (list_by P.Signature.count P.Signature.value) pile.now line.now shelf.old memory.old (told result) shelf.new memory.new }
+    ensures { Obeys (questions_by on_off_same P.Signature.count P.Signature.value) pile.now line.now shelf.old memory.old (told result) shelf.new memory.new }
 {
     let Some(form) = Form::read(line) else {
         return Err(Refusal::NotAForm);

@@ -10,7 +10,7 @@ use Rattle.rows.specs.Kinds.{on_off_same, on_off_weight, code, drive_same}
 use Rattle.rows.specs.Drives.{Is}
 use Rattle.std.specs.List.{range_with_len}
 use Rattle.answers.specs.Spelling.{text_of}
-use Rattle.ledger.specs.Law.{Answer, proposed}
+use Rattle.ledger.specs.Questions.{Answer, proposed}
 use Rattle.lists.specs.Spread.{spread}
 use Rattle.signatures.specs.Law.{list_of}
 use Rattle.signatures.specs.Values.{cofactor, refined, neighbour}

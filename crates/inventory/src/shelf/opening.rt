@@ -7,7 +7,7 @@ use crate::shelf::Shelf;
 use refusals::Refusal;
 
 impl Shelf {
-    // An empty shelf of 1 to 64 slots.
+    /// An empty shelf of 1 to 64 slots.
     pub fn open(slots: usize) -> Result<Shelf, Refusal>
         ensures { Outcome (open_due slots) (IsEmpty slots) result }
     {
@@ -20,14 +20,14 @@ impl Shelf {
         })
     }
 
-    // How many slots it has, free or not.
+    /// How many slots it has, free or not.
     pub fn slots(&self) -> usize
         ensures { result ≡ self.now.count }
     {
         self.count
     }
 
-    // Whether this is row memory for the shelf: 1,024 rows a slot.
+    /// Whether this is row memory for the shelf: 1,024 rows a slot.
     pub fn check_memory<R>(&self, memory: &[R]) -> Result<(), Refusal>
         ensures { Outcome (memory_due self.now.count (length memory.now)) (λ _. length memory.now ≡ self.now.count * 1024) result }
     {

@@ -1,8 +1,7 @@
-ghost use Rattle.std.specs.Prelude.{◌≡◌, ◌*◌, ◌^◌, length};
-ghost use Rattle.ledger.specs.Law.{list_by};
+ghost use Rattle.std.specs.Prelude.{◌≡◌, ◌*◌, length};
+ghost use Rattle.ledger.specs.Questions.{list_by};
 ghost use Rattle.ledger.specs.Refused.{fit_due};
-ghost use Rattle.tables.specs.Sums.{weighed};
-ghost use Rattle.signatures.specs.Law.{GivesLists};
+ghost use Rattle.tables.specs.Above.{SumsAbove};
 ghost use Rattle.inventory.specs.Slots.{Held, memory_due};
 ghost use Rattle.inventory.specs.Fitting.{Best, Fitted, Worth};
 
@@ -10,12 +9,12 @@ use crate::label::Label;
 use crate::proposal::Proposal;
 use crate::row_store::stored;
 use crate::shelf::Shelf;
-use lists::{Lists, strikes, struck_count};
-use matching::first_wiring;
+use lists::{Lists, struck_count};
+use matching::{Strikes, first_wiring_by_sums};
 use refusals::Refusal;
 use rows::RowKind;
 use signatures::Signature;
-use tables::{Table, total_weight};
+use tables::{Table, sums_above};
 
 // The slot's label, if its part could be proposed in place of the best so far: the right number of inputs, and a lower
 // number.
@@ -32,29 +31,26 @@ fn worth(slot: Option<Label>, inputs: usize, best: &Option<Proposal>) -> Option<
     }
 }
 
-// What one part has to propose. The card's weight and lists are worked out before, once for all parts. A part of another
-// weight cannot agree, and its lists are not asked for.
+// What one part has to propose. The sums of the card are worked out before, once for all parts. Only where there is a wiring
+// is the pile asked how many pairs it strikes: a part that agrees has the card's lists in another order, so those of the
+// card tell.
 fn propose<R: RowKind, P: Signature<R>>(
     pile: &P,
     card: &Table<R>,
-    weight: u32,
-    lists: &Lists,
+    sums: &[u32; 1024],
     label: Label,
     part: &Table<R>,
 ) -> Option<Proposal>
-    requires weight { weight ≡ weighed R.RowKind.weight card.now.rows.now (2 ^ card.now.inputs) }
-    requires lists { GivesLists (P.Signature.count pile.now) (P.Signature.value pile.now) card.now.inputs card.now.rows.now lists.now }
+    requires sums { SumsAbove R.RowKind.weight card.now sums.now }
     requires size { part.now.inputs ≡ card.now.inputs }
     ensures { Best R.RowKind.same (list_by P.Signature.count P.Signature.value) (λ x. x ≡ record { number = label.number; inputs = part.now.inputs; rows = part.now.rows.now }) card.now.inputs card.now.rows.now pile.now result }
 {
-    if total_weight(part) != weight {
-        return None;
-    }
-    let mut part_lists = Lists::NONE;
-    pile.fill(part, &mut part_lists);
-    let apart = strikes(lists, &part_lists);
-    let wiring = first_wiring(card, part, &apart)?;
-    let struck = struck_count(lists, &part_lists);
+    let mut part_sums = [0; 1024];
+    sums_above(part, &mut part_sums);
+    let wiring = first_wiring_by_sums(card, part, sums, &part_sums, &Strikes::none())?;
+    let mut lists = Lists::NONE;
+    pile.fill(card, &mut lists);
+    let struck = struck_count(&lists, &lists);
     Some(Proposal {
         number: label.number,
         wiring,
@@ -73,21 +69,20 @@ impl Shelf {
         requires { length memory.now ≡ self.now.count * 1024 }
         ensures { Best R.RowKind.same (list_by P.Signature.count P.Signature.value) (Held self.now.slots memory.now) card.now.inputs card.now.rows.now pile.now result }
     {
-        let weight = total_weight(card);
-        let mut lists = Lists::NONE;
-        pile.fill(card, &mut lists);
+        let mut sums = [0; 1024];
+        sums_above(card, &mut sums);
         let mut best = None;
         for (k, slot) in self.slots.iter().enumerate() {
             if let Some(label) = worth(*slot, card.inputs, &best) {
                 let part = stored(memory, k, label.inputs);
-                best = propose(pile, card, weight, &lists, label, &part).or(best);
+                best = propose(pile, card, &sums, label, &part).or(best);
             }
         }
         best
     }
 
-    // Which part can stand in for a card, and how its pins are wired: the lowest number with an agreeing wiring, and the
-    // first of its agreeing wirings in dictionary order. The pile only spares the search work.
+    /// Which part can stand in for a card, and how its pins are wired: the lowest number with an agreeing wiring, and the
+    /// first of its agreeing wirings in dictionary order. The pile says only how many pairs it strikes.
     pub fn fit<R: RowKind, P: Signature<R>>(
         &self,
         memory: &[R],

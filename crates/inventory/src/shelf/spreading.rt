@@ -1,6 +1,6 @@
 ghost use Rattle.std.specs.Prelude.{length};
 ghost use Rattle.refusals.specs.Due.{Outcome};
-ghost use Rattle.ledger.specs.Law.{list_by, Spreads};
+ghost use Rattle.ledger.specs.Questions.{list_by, Spreads};
 ghost use Rattle.ledger.specs.Refused.{spread_due};
 ghost use Rattle.inventory.specs.Slots.{Held, labelled, memory_due};
 
@@ -14,7 +14,7 @@ use signatures::Signature;
 use tables::Table;
 
 impl Shelf {
-    // In how many ways a pile leaves the pins of a part open to a card: the agreeing wirings number at most so many.
+    /// In how many ways a pile leaves the pins of a part open to a card: the agreeing wirings number at most so many.
     pub fn spread<R: RowKind, P: Signature<R>>(
         &self,
         memory: &[R],

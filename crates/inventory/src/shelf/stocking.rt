@@ -12,7 +12,7 @@ use rows::RowKind;
 use tables::Table;
 
 impl Shelf {
-    // Enters a part: its rows go into the front of the stretch of a free slot.
+    /// Enters a part: its rows go into the front of the stretch of a free slot.
     pub fn enter<R: RowKind>(
         &mut self,
         memory: &mut [R],
@@ -31,7 +31,7 @@ impl Shelf {
         Ok(())
     }
 
-    // Drops a part: its slot is free again, and its rows are left as they are.
+    /// Drops a part: its slot is free again, and its rows are left as they are.
     pub fn drop_part<R: RowKind>(&mut self, memory: &[R], number: u32) -> Result<(), Refusal>
         ensures { Dropped (drop_due (memory_due self.old.count (length memory.now)) (labelled number self.old.slots) number) number self.old result self.new }
     {

@@ -6,7 +6,7 @@ use trial::Tried;
 use wire_sheet::{Sheet, print_sheet};
 
 impl Printed {
-    // The sheet of a tried wiring, printed and read back.
+    /// The sheet of a tried wiring, printed and read back.
     pub fn of(tried: Tried) -> Printed
         ensures { IsSheet tried.number tried.wiring result }
     {
@@ -20,6 +20,7 @@ impl Printed {
         Printed { text, len, read }
     }
 
+    /// The text of the sheet.
     pub fn text(&self) -> &[u8]
         ensures { result.now ≡ take self.now.len self.now.text }
     {

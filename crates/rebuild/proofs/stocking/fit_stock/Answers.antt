@@ -9,7 +9,7 @@ use Rattle.inventory.specs.Fitting.{Best, Fitted}
 use Rattle.inventory.specs.Slots.{Held, memory_due}
 use Rattle.inventory.specs.declared.proposal.Proposal.{Proposal}
 use Rattle.lists.specs.Counting.{Mem}
-use Rattle.ledger.specs.Law.{list_by}
+use Rattle.ledger.specs.Questions.{list_by}
 use Rattle.tables.specs.Making.{table_due}
 use Rattle.tables.specs.Wirings.{pin}
 use Rattle.runs.proofs.Stock.{memory_fits}

@@ -1,21 +1,8 @@
-use Rattle.std.proofs.Common.{◌<◌, length, ◌∙◌, arith}
-use Rattle.std.proofs.lemmas.Grind.{common_steps}
-use Rattle.ledger.specs.Law.{list_by}
-use Rattle.runs.specs.Transcript.{said, told}
-use Rattle.runs.proofs.Steps.{does_leads}
-use Rattle.runs.proofs.Turns.{play_more}
+use Rattle.ledger.specs.Questions.{questions_by}
+use Rattle.runs.proofs.CallLists.{calls_played}
 use Rattle.runs.proofs.playing.play.Goals as goal
 
-pub loop-k-preserved : goal.loop-k-preserved
-loop-k-preserved g c =
-    let i = c.loop-k.invariant in
-    let k = c.loop-k.k in
-    let leads = does_leads g.R.RowKind.same (list_by g.P.Signature.count g.P.Signature.value) c.loop-k.shelf c.loop-k.memory i.0 (said c.index-calls-k.result) (told c.obey.result) c.obey.new.shelf c.obey.new.memory c.obey.ensures in
-    let long : k < length c.loop-k.answers = omega (arith, c.if-answers-calls.false, c.loop-k-test.true, c.loop-k.auto.answers) in (
-      omega (arith, c.obey.auto.memory, i.0, leads.0),
-      leads.0 ∙ i.1,
-      grind (arith, common_steps, i.2),
-      λ parts h.
-          play_more g.R.RowKind.same (list_by g.P.Signature.count g.P.Signature.value) c.args.shelf.now.count said told parts c.args.calls.now k c.loop-k.answers c.loop-k.shelf c.loop-k.memory c.index-calls-k.result c.obey.result c.obey.new.shelf c.obey.new.memory
-          c.loop-k-test.true long c.index-calls-k.is i.1 (i.3 parts h) leads,
-    )
+pub returns : goal.returns
+returns g c =
+    calls_played (questions_by g.R.RowKind.same g.P.Signature.count g.P.Signature.value) c.args.memory.now c.args.calls.now c.args.answers.now
+    c.args.shelf.now c.play_entries.result c.play_entries.new.shelf c.play_entries.new.memory c.play_entries.new.bytes c.play_entries.new.words c.play_entries.new.answers c.play_entries.ensures

@@ -1,4 +1,4 @@
-use Rattle.std.proofs.Common.{◌≡◌, ℕ, zero, suc, ◌<◌, List, [], ◌∷◌, length, map, refl, ap, sym, ◌∙◌, subst, get_or, arith}
+use Rattle.std.proofs.Common.{◌≡◌, ℕ, zero, suc, ◌<◌, List, [], ◌∷◌, length, map, refl, sym, subst, get_or, arith}
 use Rattle.rows.specs.declared.on_off.OnOff.{OnOff}
 use Rattle.typed_rows.specs.Reading.{digit}
 use Rattle.shelf_line.proofs.obeying.write_rows.Goals as goal

@@ -1,5 +1,5 @@
 use Rattle.std.proofs.Common.{None, sym, ◌∙◌, subst}
-use Rattle.ledger.specs.Law.{list_by}
+use Rattle.ledger.specs.Questions.{list_by}
 use Rattle.inventory.specs.Fitting.{Worth}
 use Rattle.inventory.proofs.Choosing.{slot_read, slot_passed, slot_searched, all_slots}
 use Rattle.inventory.proofs.shelf.Shelf.best_fit.Goals as goal

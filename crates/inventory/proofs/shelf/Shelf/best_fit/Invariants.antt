@@ -1,4 +1,4 @@
-use Rattle.ledger.specs.Law.{list_by}
+use Rattle.ledger.specs.Questions.{list_by}
 use Rattle.inventory.specs.Fitting.{Best}
 use Rattle.inventory.specs.Slots.{HeldBelow}
 use Rattle.inventory.proofs.shelf.Shelf.best_fit.Given as goal

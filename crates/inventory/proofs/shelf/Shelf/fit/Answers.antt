@@ -3,7 +3,7 @@ use Rattle.std.specs.Option.{ok_or}
 use Rattle.refusals.specs.Due.{Due, none}
 use Rattle.refusals.specs.declared.refusal.Refusal.{Refusal}
 use Rattle.ledger.specs.Ledger.{Part}
-use Rattle.ledger.specs.Law.{list_by}
+use Rattle.ledger.specs.Questions.{list_by}
 use Rattle.inventory.specs.Fitting.{Best, Fitted}
 use Rattle.inventory.specs.Slots.{Held}
 use Rattle.inventory.specs.declared.proposal.Proposal.{Proposal}

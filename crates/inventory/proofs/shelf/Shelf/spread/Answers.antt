@@ -1,5 +1,5 @@
 use Rattle.std.proofs.Common.{sym, ◌∙◌, arith}
-use Rattle.ledger.specs.Law.{list_by}
+use Rattle.ledger.specs.Questions.{list_by}
 use Rattle.inventory.proofs.Choosing.{slot_read}
 use Rattle.inventory.proofs.Measuring.{slot_spreads}
 use Rattle.inventory.proofs.shelf.Shelf.spread.Goals as goal

@@ -1,6 +1,6 @@
 use Rattle.std.proofs.Common.{ℕ, Bool, List, Some}
 use Rattle.lists.specs.Counting.{Mem}
-use Rattle.ledger.specs.Law.{list_by}
+use Rattle.ledger.specs.Questions.{list_by}
 use Rattle.inventory.specs.Fitting.{Best}
 use Rattle.inventory.specs.declared.proposal.Proposal.{Proposal}
 use Rattle.rebuild.specs.Stocking.{stood}
