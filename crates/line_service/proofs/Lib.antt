@@ -1,4 +1,6 @@
+pub mod Passing
+pub mod Cutting
 pub mod Talking
 pub mod Composing
-pub mod Cutting
 pub mod Opened
+pub mod Breaking

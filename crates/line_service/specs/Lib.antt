@@ -1,2 +1,5 @@
+pub mod Known
+pub mod Peers
 pub mod Lines
 pub mod Service
+pub mod Transcripts

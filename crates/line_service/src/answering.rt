@@ -1,14 +1,18 @@
-ghost use Rattle.std.specs.Prelude.{◌≡◌, ℕ, ◌*◌, ◌≤◌, [], ◌∷◌, length, take, Ok, IfOk};
-ghost use Rattle.ledger.specs.Law.{list_by};
+ghost use Rattle.std.specs.Prelude.{◌≡◌, ℕ, ◌*◌, ◌≤◌, [], ◌∷◌, length, take, Ok, IfErr, OnOk, OnErr};
+ghost use Rattle.rows.specs.Kinds.{on_off_same};
+ghost use Rattle.ledger.specs.Questions.{questions_by};
 ghost use Rattle.line_runs.specs.declared.turn.TurnAnswer.TheVariants.{Line};
-ghost use Rattle.line_service.specs.Service.{Talks, Says};
+ghost use Rattle.line_service.specs.Peers.{BreaksWriting};
+ghost use Rattle.line_service.specs.Service.{AnswersLine, Says, SaysInPart};
 
+use crate::peer::Peer;
+use crate::service_error::ServiceError;
+use crate::writing::write_on;
 use inventory::Shelf;
-use line_runs::{Turn, TurnAnswer, play_turns};
+use line_runs::{Turn, TurnAnswer};
 use rows::OnOff;
+use runs::Entry;
 use signatures::Signature;
-use std::io::{self, Write};
-use std::slice;
 
 // Every answer has room in so many bytes.
 const ROOM: usize = 64;
@@ -24,7 +28,7 @@ fn written(answer: TurnAnswer) -> usize
     }
 }
 
-// Plays a line as a list of one, and answers how much was written.
+// Plays a line, and answers how much was written.
 fn play_line<P: Signature<OnOff>>(
     shelf: &mut Shelf,
     memory: &mut [OnOff],
@@ -33,31 +37,31 @@ fn play_line<P: Signature<OnOff>>(
     bytes: &mut [u8; ROOM],
 ) -> usize
     requires { length memory.old ≡ shelf.old.count * 1024 }
-    ensures { (result ≤ 64) × Talks (list_by P.Signature.count P.Signature.value) pile.now (line.now ∷ []) shelf.old memory.old (take result bytes.new) shelf.new memory.new }
+    ensures { (result ≤ 64) × AnswersLine (questions_by on_off_same P.Signature.count P.Signature.value) pile.now line.now shelf.old memory.old (take result bytes.new) shelf.new memory.new }
 {
     let turn = Turn::Line {
         text: line,
         pile,
         room: ROOM,
     };
-    let mut answers = [TurnAnswer::Line(Ok(0))];
-    play_turns(shelf, memory, slice::from_ref(&turn), bytes, &mut answers).unwrap();
-    let [answer] = answers;
-    written(answer)
+    written(turn.play(shelf, memory, bytes, &mut []))
 }
 
-// Writes the text that answers a line.
-pub fn say<P: Signature<OnOff>, W: Write>(
+/// Writes the text that answers a line.
+pub fn say<P: Signature<OnOff>, C: Peer>(
     shelf: &mut Shelf,
     memory: &mut [OnOff],
     pile: &P,
     line: &[u8],
-    output: &mut W,
-) -> io::Result<()>
+    peer: &mut C,
+) -> Result<(), ServiceError>
     requires { length memory.old ≡ shelf.old.count * 1024 }
-    ensures { IfOk result (λ _. Says (list_by P.Signature.count P.Signature.value) pile.now (line.now ∷ []) shelf.old memory.old (W.contents output.old) (W.contents output.new) shelf.new memory.new) }
+    ensures said { OnOk result (Says (questions_by on_off_same P.Signature.count P.Signature.value) pile.now C.passes (line.now ∷ []) shelf.old memory.old peer.old shelf.new memory.new peer.new) }
+    ensures cut { OnErr result (SaysInPart (questions_by on_off_same P.Signature.count P.Signature.value) pile.now C.passes (line.now ∷ []) shelf.old memory.old peer.old shelf.new memory.new peer.new) }
+    ensures end { C.is_at_end peer.old → C.is_at_end peer.new }
+    ensures failed { IfErr result (BreaksWriting C.write_fails peer.new) }
 {
     let mut bytes = [0; ROOM];
     let size = play_line(shelf, memory, pile, line, &mut bytes);
-    output.write_all(&bytes[..size])
+    write_on(peer, &bytes[..size])
 }

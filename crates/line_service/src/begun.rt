@@ -6,7 +6,7 @@ mod growing;
 // One byte more than a line may have: enough to tell that a line is too long.
 const KEPT: usize = 1101;
 
-// The front of the line that is being read. What is past it is not kept, however long the line.
+/// The front of the line that is being read. What is past it is not kept, however long the line.
 #[derive(Drop)]
 pub struct Begun {
     bytes: ArrayVec<u8, KEPT>,

@@ -1,48 +1,55 @@
-ghost use Rattle.std.specs.Prelude.{◌≡◌, ◌*◌, [], ◌∷◌, length, IfOk};
-ghost use Rattle.ledger.specs.Law.{list_by};
-ghost use Rattle.line_service.specs.Service.{Hears};
+ghost use Rattle.std.specs.Prelude.{◌≡◌, ◌*◌, [], ◌∷◌, length, IfErr, OnOk, OnErr};
+ghost use Rattle.rows.specs.Kinds.{on_off_same};
+ghost use Rattle.ledger.specs.Questions.{questions_by};
+ghost use Rattle.line_service.specs.Peers.{BreaksWriting};
+ghost use Rattle.line_service.specs.Service.{Hears, HearsInPart};
 
 use crate::answering::say;
 use crate::begun::Begun;
+use crate::peer::Peer;
+use crate::service_error::ServiceError;
 use inventory::Shelf;
 use rows::OnOff;
 use signatures::Signature;
-use std::io::{self, Write};
 
-// Goes on with a byte of the input. Where it ends a line, the line is answered.
-fn hear_byte<P: Signature<OnOff>, W: Write>(
+// Goes on with a byte. Where it ends a line, the line is answered.
+fn hear_byte<P: Signature<OnOff>, C: Peer>(
     shelf: &mut Shelf,
     memory: &mut [OnOff],
     pile: &P,
     begun: &mut Begun,
     byte: u8,
-    output: &mut W,
-) -> io::Result<()>
+    peer: &mut C,
+) -> Result<(), ServiceError>
     requires { length memory.old ≡ shelf.old.count * 1024 }
-    ensures { IfOk result (λ _. Hears (list_by P.Signature.count P.Signature.value) pile.now begun.old (byte ∷ []) shelf.old memory.old (W.contents output.old) (W.contents output.new) begun.new shelf.new memory.new) }
+    ensures heard { OnOk result (Hears (questions_by on_off_same P.Signature.count P.Signature.value) pile.now C.passes begun.old (byte ∷ []) shelf.old memory.old peer.old begun.new shelf.new memory.new peer.new) }
+    ensures cut { OnErr result (HearsInPart (questions_by on_off_same P.Signature.count P.Signature.value) pile.now C.passes begun.old (byte ∷ []) shelf.old memory.old peer.old shelf.new memory.new peer.new) }
+    ensures failed { IfErr result (BreaksWriting C.write_fails peer.new) }
 {
     begun.add(byte);
     if byte == b'\n' {
-        say(shelf, memory, pile, begun.as_bytes(), output)?;
+        say(shelf, memory, pile, begun.as_bytes(), peer)?;
         begun.clear();
     }
     Ok(())
 }
 
-// Goes on with some bytes.
-pub fn hear<P: Signature<OnOff>, W: Write>(
+/// Goes on with some bytes.
+pub fn hear<P: Signature<OnOff>, C: Peer>(
     shelf: &mut Shelf,
     memory: &mut [OnOff],
     pile: &P,
     begun: &mut Begun,
     bytes: &[u8],
-    output: &mut W,
-) -> io::Result<()>
+    peer: &mut C,
+) -> Result<(), ServiceError>
     requires { length memory.old ≡ shelf.old.count * 1024 }
-    ensures { IfOk result (λ _. Hears (list_by P.Signature.count P.Signature.value) pile.now begun.old bytes.now shelf.old memory.old (W.contents output.old) (W.contents output.new) begun.new shelf.new memory.new) }
+    ensures heard { OnOk result (Hears (questions_by on_off_same P.Signature.count P.Signature.value) pile.now C.passes begun.old bytes.now shelf.old memory.old peer.old begun.new shelf.new memory.new peer.new) }
+    ensures cut { OnErr result (HearsInPart (questions_by on_off_same P.Signature.count P.Signature.value) pile.now C.passes begun.old bytes.now shelf.old memory.old peer.old shelf.new memory.new peer.new) }
+    ensures failed { IfErr result (BreaksWriting C.write_fails peer.new) }
 {
     for byte in bytes {
-        hear_byte(shelf, memory, pile, begun, *byte, output)?;
+        hear_byte(shelf, memory, pile, begun, *byte, peer)?;
     }
     Ok(())
 }

@@ -1,22 +1,26 @@
-ghost use Rattle.std.specs.Prelude.{◌≢◌, IfErr};
+ghost use Rattle.std.specs.Prelude.{◌≡◌, ◌<◌, [], length, Ok, IfErr};
 ghost use Rattle.std.specs.Io.{ReadsAtMost};
-ghost use Rattle.std.specs.Io.KnownBytes.{ReadConsumes};
-ghost use Rattle.std.specs.IoError.{error_kind};
-ghost use Rattle.std.specs.declared.io.ErrorKind.TheVariants.{Interrupted};
+ghost use Rattle.line_service.specs.Peers.{passed, BreaksReading};
 
-use std::io::{self, ErrorKind, Read};
+use crate::peer::Peer;
+use crate::service_error::ServiceError;
+use std::io::ErrorKind;
 
-// Reads, and reads again where a signal interrupts it.
-pub fn read_on<R: Read>(input: &mut R, chunk: &mut [u8]) -> io::Result<usize>
+/// Reads, and reads again where a signal interrupts it.
+pub fn read_on<C: Peer>(peer: &mut C, chunk: &mut [u8]) -> Result<usize, ServiceError>
+    requires { C.is_flushed peer.old }
     ensures bound { ReadsAtMost result chunk.new }
-    ensures bytes { ReadConsumes (R.remaining input.old) (R.remaining input.new) result chunk.new }
-    ensures retried { IfErr result (λ error. error_kind error ≢ Interrupted) }
+    ensures bytes { C.passes peer.old (passed result chunk.new) [] peer.new }
+    ensures end { result ≡ Ok 0 → 0 < length chunk.old → C.is_at_end peer.new }
+    ensures flushed { C.is_flushed peer.new }
+    ensures failed { IfErr result (BreaksReading C.read_fails peer.new) }
 {
     for _ in 0..u64::MAX {
-        match input.read(chunk) {
+        match peer.read(chunk) {
+            Ok(count) => return Ok(count),
             Err(error) if error.kind() == ErrorKind::Interrupted => {}
-            read => return read,
+            Err(error) => return Err(ServiceError::Reading(error)),
         }
     }
-    Err(ErrorKind::Other.into())
+    Err(ServiceError::Reading(ErrorKind::TimedOut.into()))
 }

@@ -1,14 +1,17 @@
 ghost use Rattle.std.specs.Prelude.{◌≡◌};
-ghost use Rattle.line_service.specs.declared.service_error.ServiceError.TheVariants.{Refused, Io};
+ghost use Rattle.line_service.specs.declared.service_error.ServiceError.TheVariants.{Refused};
 
 use refusals::Refusal;
 use std::io;
 
-// Why a conversation was not held, or broke off.
+/// Why a conversation was not held, or broke off.
 #[derive(Debug, Drop)]
 pub enum ServiceError {
     Refused(Refusal),
-    Io(io::Error),
+    Reading(io::Error),
+    Writing(io::Error),
+    /// At least 2^64 - 1 bytes came.
+    TooLong,
 }
 
 impl From<Refusal> for ServiceError {
@@ -16,13 +19,5 @@ impl From<Refusal> for ServiceError {
 
     fn from(refusal: Refusal) -> ServiceError {
         ServiceError::Refused(refusal)
-    }
-}
-
-impl From<io::Error> for ServiceError {
-    ghost from_gives = { λ cause error. error ≡ Io cause };
-
-    fn from(cause: io::Error) -> ServiceError {
-        ServiceError::Io(cause)
     }
 }

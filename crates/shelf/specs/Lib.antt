@@ -1,2 +1,3 @@
 pub mod Requests
 pub mod Texts
+pub mod Standard

@@ -10,7 +10,7 @@ use Rattle.shelf.specs.declared.failure.Failure.TheVariants.{Usage, Refused, Mem
 
 abbrev pub failure_of : ServiceError → Failure
 failure_of (service.Refused refusal) = Refused refusal
-failure_of (service.Io cause) = Broken
+failure_of _ = Broken
 
 abbrev pub failure_text : Failure → List ℕ
 failure_text Usage = codes "shelf: takes no arguments; shelf --help says how to use it"

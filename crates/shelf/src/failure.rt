@@ -7,7 +7,7 @@ use refusals::Refusal;
 use std::alloc::AllocError;
 use std::{fmt, io};
 
-// Why the program did not go on to the end of its input.
+/// Why the program did not go on to the end of its input.
 #[derive(Debug, Drop)]
 pub enum Failure {
     Usage,
@@ -38,7 +38,9 @@ impl From<ServiceError> for Failure {
     fn from(error: ServiceError) -> Failure {
         match error {
             ServiceError::Refused(refusal) => Failure::Refused(refusal),
-            ServiceError::Io(_) => Failure::Broken,
+            ServiceError::Reading(_) | ServiceError::Writing(_) | ServiceError::TooLong => {
+                Failure::Broken
+            }
         }
     }
 }

@@ -3,6 +3,7 @@ ghost use Rattle.shelf.specs.Requests.{Asks};
 
 use programs::asks_for_help;
 
+/// What `--help` prints.
 pub const USAGE: &str = "usage: shelf
 
 Keeps a shelf of 16 parts with on/off rows. Reads lines from standard input and answers each on standard output.
@@ -22,7 +23,7 @@ Keeps a shelf of 16 parts with on/off rows. Reads lines from standard input and 
 
 example: printf '(part 30 (pins 1) (rows 01))\\n(card (pins 1) (rows 01))\\n' | shelf";
 
-// What the program is asked.
+/// What the program is asked.
 #[derive(Clone, Copy)]
 pub enum Request {
     Help,
@@ -30,7 +31,7 @@ pub enum Request {
 }
 
 impl Request {
-    // The request that the arguments make, if they make one.
+    /// The request that the arguments make, if they make one.
     pub fn of(args: &[String]) -> Option<Request>
         ensures { Asks (map string_bytes args.now) result }
     {

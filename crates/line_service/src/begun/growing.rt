@@ -4,6 +4,7 @@ use crate::begun::Begun;
 use arrayvec::ArrayVec;
 
 impl Begun {
+    /// A line with no byte yet.
     pub fn empty() -> Begun
         ensures { result ≡ [] }
     {
@@ -12,6 +13,7 @@ impl Begun {
         }
     }
 
+    /// Adds a byte, if fewer than 1,101 are kept.
     pub fn add(&mut self, byte: u8)
         ensures { self.new ≡ take 1101 (self.old ++ byte ∷ []) }
     {
@@ -20,12 +22,14 @@ impl Begun {
         }
     }
 
+    /// The bytes that are kept.
     pub fn as_bytes(&self) -> &[u8]
         ensures { result.now ≡ self.now }
     {
         self.bytes.as_slice()
     }
 
+    /// Begins a new line.
     pub fn clear(&mut self)
         ensures { self.new ≡ [] }
     {

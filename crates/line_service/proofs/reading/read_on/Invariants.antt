@@ -1,6 +1,8 @@
-use Rattle.std.proofs.Common.{◌≡◌, length}
-use Rattle.std.specs.Io.KnownBytes.{Keeps}
+use Rattle.std.proofs.Common.{◌≡◌, [], length}
+use Rattle.line_service.proofs.Passing.{InterruptedUntil}
 use Rattle.line_service.proofs.reading.read_on.Given as goal
 
 abbrev pub invariant-loop : goal.invariant-loop
-invariant-loop g l = (length l.chunk ≡ length l.initial.chunk) × Keeps (g.R.Read.remaining l.initial.input) (g.R.Read.remaining l.input)
+invariant-loop g l =
+    (length l.chunk ≡ length l.initial.chunk) × g.C.Peer.is_flushed l.peer
+    × g.C.Peer.passes l.initial.peer [] [] l.peer × InterruptedUntil g.C.Peer.read_fails l.initial.peer l.counter l.peer

@@ -1,0 +1,28 @@
+use Rattle.std.proofs.Common.{[], ◌∷◌, take, refl, inr, rules, arith}
+use Rattle.line_service.proofs.Passing.{then_read, then_nothing}
+use Rattle.line_service.proofs.reading.read_on.Goals as goal
+
+pub returns-in-Err-2-clause-bytes : goal.returns-in-Err-2-clause-bytes
+returns-in-Err-2-clause-bytes g c = then_nothing g.C.Peer.passes g.met.C.Peer.passes_in_order c.args.peer.now c.loop.peer c.read.new.self [] [] c.loop.invariant.2 c.in-Err-2.ensures.bytes
+
+pub returns-in-Ok-clause-bytes : goal.returns-in-Ok-clause-bytes
+returns-in-Ok-clause-bytes g c =
+    then_read g.C.Peer.passes g.met.C.Peer.passes_in_order c.args.peer.now c.loop.peer c.read.new.self [] (take c.in-Ok.count c.read.new.chunk) [] c.loop.invariant.2 c.in-Ok.ensures.bytes
+
+pub loop-preserved : goal.loop-preserved
+loop-preserved g c = (
+  omega (arith, c.read.auto.chunk, c.loop.invariant.0),
+  c.read.ensures.flushed,
+  then_nothing g.C.Peer.passes g.met.C.Peer.passes_in_order c.args.peer.now c.loop.peer c.read.new.self [] [] c.loop.invariant.2 c.in-Err.ensures.bytes,
+  (
+    c.in-Err.error ∷ c.loop.invariant.3.0,
+    omega (arith, c.loop.invariant.3.1),
+    (c.loop.peer, c.loop.invariant.3.2, c.in-Err.ensures.failed, search rules),
+  ),
+)
+
+pub loop-init : goal.loop-init
+loop-init g c = (refl, c.requires, g.met.C.Peer.passes_nothing c.args.peer.now, ([], refl, tt))
+
+pub returns-clause-failed : goal.returns-clause-failed
+returns-clause-failed g c = inr (search rules, (c.args.peer.now, c.loop.invariant.3.0, omega (arith, c.loop.invariant.3.1, c.loop-test.false, c.loop.auto.counter-end), c.loop.invariant.3.2))
