@@ -6,11 +6,12 @@ use rows::OnOff;
 use std::array;
 use tables::Wiring;
 
-// A linear congruential generator, so that each run draws the same.
+/// A linear congruential generator, so that each run draws the same.
 #[derive(Drop)]
 pub struct Random(pub u32);
 
 impl Random {
+    /// A number below this one.
     pub fn below(&mut self, end: usize) -> usize
         requires { 0 < end }
         ensures low { result < end }
@@ -21,6 +22,7 @@ impl Random {
         (self.0 >> 16) as usize % end
     }
 
+    /// A row that is off or on.
     pub fn row(&mut self) -> OnOff
         ensures value { result ≡ drawn_row self.old.0 }
         ensures state { self.new.0 ≡ next self.old.0 }
@@ -32,7 +34,7 @@ impl Random {
         }
     }
 
-    // A wiring for so many inputs, by as many draws.
+    /// A wiring for so many inputs, by as many draws.
     pub fn wiring(&mut self, inputs: usize) -> Wiring
         requires { inputs ≤ 10 }
         ensures inputs { result.inputs ≡ inputs }

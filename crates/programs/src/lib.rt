@@ -1,3 +1,4 @@
+//! What all programs share: whether one is asked for help, and how it ends.
 #![tactic(auto)]
 
 mod ending;

@@ -1,6 +1,6 @@
 ghost use Rattle.std.specs.Prelude.{◌≡◌, ◌↔◌, [], ◌∷◌, map, string_bytes, codes, IsTrue};
 
-// Whether the arguments of a program are this word alone.
+/// Whether the arguments of a program are this word alone.
 pub fn is_only(args: &[String], word: &str) -> bool
     ensures { IsTrue result ↔ (map string_bytes args.now ≡ word.now ∷ []) }
 {
@@ -10,7 +10,7 @@ pub fn is_only(args: &[String], word: &str) -> bool
     }
 }
 
-// Whether the arguments of a program ask for help: `--help` alone.
+/// Whether the arguments of a program ask for help: `--help` alone.
 pub fn asks_for_help(args: &[String]) -> bool
     ensures { IsTrue result ↔ (map string_bytes args.now ≡ codes "--help" ∷ []) }
 {

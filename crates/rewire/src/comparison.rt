@@ -11,8 +11,8 @@ use std::alloc::Global;
 use tables::{Table, Wiring};
 use typed_rows::Size;
 
-// What there is to say of a card and a part: how large they are, how many pairs of input and pin signatures tell apart,
-// the spread, and the first wiring under which they agree.
+/// What there is to say of a card and a part: how large they are, how many pairs of input and pin signatures tell apart,
+/// the spread, and the first wiring under which they agree.
 #[derive(Clone, Copy)]
 pub struct Comparison {
     pub card: Size,
@@ -44,7 +44,7 @@ impl Comparison {
         }
     }
 
-    // Of a card and a part as they were typed.
+    /// Of a card and a part as they were typed.
     pub fn of_typed<P: Signature<OnOff>>(
         heap: Global,
         pile: &P,

@@ -6,13 +6,14 @@ use refusals::Refusal;
 use std::alloc::AllocError;
 use std::{fmt, io};
 
+/// Which of the two tables.
 #[derive(Clone, Copy, Debug)]
 pub enum Side {
     Card,
     Part,
 }
 
-// Why no answer was printed.
+/// Why no answer was printed.
 #[derive(Debug, Drop)]
 pub enum Failure {
     Usage,

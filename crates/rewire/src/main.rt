@@ -1,3 +1,4 @@
+//! One card against one part: their sizes, what signatures tell apart, and the first wiring.
 #![tactic(auto)]
 
 mod comparison;

@@ -3,6 +3,7 @@ ghost use Rattle.rewire.specs.Requests.{Asks};
 
 use programs::asks_for_help;
 
+/// What `--help` prints.
 pub const USAGE: &str = "usage: rewire CARD PART
 
 Finds which pin of a part each input of a card goes to.
@@ -12,7 +13,7 @@ In row r, input i has the value of bit i of r, so a table of n inputs has 2^n ro
 
 example: rewire 00110101 00011011";
 
-// What the program is asked.
+/// What the program is asked.
 #[derive(Clone, Copy)]
 pub enum Request<'a> {
     Help,
@@ -20,7 +21,7 @@ pub enum Request<'a> {
 }
 
 impl<'a> Request<'a> {
-    // The request that the arguments make, if they make one.
+    /// The request that the arguments make, if they make one.
     pub fn of(args: &'a [String]) -> Option<Request<'a>>
         ensures { Asks (map string_bytes args.now) result }
     {

@@ -6,7 +6,7 @@ use std::alloc::Global;
 use tables::Table;
 use typed_rows::{RowsError, rows_from, table_of};
 
-// The rows that were typed on this side.
+/// The rows that were typed on this side.
 pub fn typed(heap: Global, side: Side, text: &str) -> Result<Vec<OnOff>, Failure>
     ensures { Read side text.now result }
 {
@@ -16,7 +16,7 @@ pub fn typed(heap: Global, side: Side, text: &str) -> Result<Vec<OnOff>, Failure
     })
 }
 
-// The table of the rows that were typed on this side.
+/// The table of the rows that were typed on this side.
 pub fn sized(side: Side, rows: &[OnOff]) -> Result<Table<'_, OnOff>, Failure>
     ensures { ReadTable side rows.now result }
 {

@@ -1,4 +1,4 @@
-// What a line asks of a shelf. The rows are the digits 0 and 1 of the line, row 0 first.
+/// What a line asks of a shelf. The rows are the digits 0 and 1 of the line, row 0 first.
 #[derive(Clone, Copy, Debug)]
 pub enum Form<'a> {
     Part {

@@ -1,3 +1,4 @@
+//! The three forms of a shelf's line, read exactly.
 #![tactic(auto)]
 
 mod form;

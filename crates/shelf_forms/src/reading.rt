@@ -66,7 +66,7 @@ fn card<'a>(mut cursor: Cursor<'a>) -> Option<Form<'a>>
 }
 
 impl<'a> Form<'a> {
-    // The form that the line spells, its newline included.
+    /// The form that the line spells, its newline included.
     pub fn read(line: &'a [u8]) -> Option<Form<'a>>
         ensures { Reads line.now result }
     {

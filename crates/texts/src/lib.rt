@@ -1,3 +1,4 @@
+//! A text of at most 64 bytes, put together without allocating.
 #![tactic(auto)]
 
 mod text;

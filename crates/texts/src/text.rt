@@ -4,7 +4,7 @@ use std::marker::Model;
 mod copying;
 mod writing;
 
-// A text of at most 64 bytes that is put together without allocating.
+/// A text of at most 64 bytes that is put together without allocating.
 #[derive(Drop)]
 pub struct Text {
     bytes: ArrayVec<u8, 64>,

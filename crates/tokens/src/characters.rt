@@ -3,7 +3,7 @@ ghost use Rattle.tokens.specs.Characters.{Is, sign_text, word_text};
 
 use crate::token::{Sign, Word};
 
-// What a run of characters is made of.
+/// What a run of characters is made of.
 #[derive(Clone, Copy, PartialEq, Eq, Debug)]
 pub enum Kind {
     Letter,
@@ -11,6 +11,7 @@ pub enum Kind {
     RowDigit,
 }
 
+/// Whether a character is of this kind.
 pub fn is_kind(kind: Kind, c: char) -> bool
     ensures { IsTrue result ↔ Is kind c }
 {
@@ -22,6 +23,7 @@ pub fn is_kind(kind: Kind, c: char) -> bool
     }
 }
 
+/// The value of a digit.
 pub fn digit_of(c: char) -> Option<u32>
     ensures { MatchOption result (¬ Is Kind.Digit c) (λ digit. Is Kind.Digit c × (c ≡ 48 + digit)) }
 {
@@ -31,6 +33,7 @@ pub fn digit_of(c: char) -> Option<u32>
     }
 }
 
+/// The sign that a character is.
 pub fn sign_of(c: char) -> Option<Sign>
     ensures { (sign : Sign) → (result ≡ Some sign) ↔ (sign_text sign ≡ c ∷ []) }
 {
@@ -66,7 +69,7 @@ fn word_of_four(a: char, b: char, c: char, d: char) -> Option<Word>
     }
 }
 
-// The word that these letters spell.
+/// The word that these letters spell.
 pub fn word_of(letters: &[u8]) -> Option<Word>
     ensures { (word : Word) → (result ≡ Some word) ↔ (word_text word ≡ letters.now) }
 {

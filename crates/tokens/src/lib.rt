@@ -1,3 +1,4 @@
+//! A line's signs, words, numbers and rows, each a part of the line that knows where it starts.
 #![tactic(auto)]
 
 mod characters;

@@ -3,7 +3,7 @@ ghost use Rattle.std.specs.Fmt.{decimal};
 
 use crate::characters::digit_of;
 
-// The number that a run of one to five digits with no leading zero writes.
+/// The number that a run of one to five digits with no leading zero writes.
 pub fn number_of(run: &[u8]) -> Option<u32>
     ensures { MatchOption result ((n : ℕ) → n < 100000 → run.now ≢ decimal n) (λ n. (n < 100000) × (run.now ≡ decimal n)) }
 {

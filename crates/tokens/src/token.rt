@@ -1,3 +1,4 @@
+/// The single characters of a line that stand for themselves.
 #[derive(Clone, Copy, PartialEq, Eq, Debug)]
 pub enum Sign {
     Open,
@@ -6,6 +7,7 @@ pub enum Sign {
     Newline,
 }
 
+/// The words of the forms.
 #[derive(Clone, Copy, PartialEq, Eq, Debug)]
 pub enum Word {
     Part,
@@ -17,8 +19,8 @@ pub enum Word {
     To,
 }
 
-// A part of a line, and the place in the line where it starts. Whether digits are a number or rows depends on where they
-// stand, so a cursor is asked for the one or the other.
+/// A part of a line, and the place in the line where it starts. Whether digits are a number or rows depends on where they
+/// stand, so a cursor is asked for the one or the other.
 #[derive(Clone, Copy, Debug)]
 pub enum Token<'a> {
     Sign {

@@ -1,3 +1,4 @@
+//! A proposal compared with the readings of a wired sample.
 #![tactic(auto)]
 
 mod failed;

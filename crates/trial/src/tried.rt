@@ -6,8 +6,8 @@ mod trying;
 
 pub use trying::try_wiring;
 
-// A wiring that passed its trial, and the number of its part. Only a trial makes one. It is moved and never copied, so
-// that what is done with it is done once; it may be given up.
+/// A wiring that passed its trial, and the number of its part. Only a trial makes one. It is moved and never copied, so
+/// that what is done with it is done once; it may be given up.
 #[derive(Drop)]
 pub struct Tried {
     number: u32,

@@ -1,6 +1,6 @@
 ghost use Rattle.std.specs.Prelude.{ℕ, ◌^◌, ◌<◌, ◌≤◌, IfNone, IfSome};
 
-// The least number of inputs for so many rows; none where ten are not enough.
+/// The least number of inputs for so many rows; none where ten are not enough.
 pub fn inputs_for(rows: usize) -> Option<usize>
     ensures few { IfSome result (λ n. n ≤ 10) }
     ensures least { IfSome result (λ n. (k : ℕ) → k < n → 2 ^ k < rows) }

@@ -1,3 +1,4 @@
+//! Rows of on and off read from digits.
 #![tactic(auto)]
 
 mod inputs;

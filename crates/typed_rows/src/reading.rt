@@ -14,7 +14,7 @@ fn row_of(byte: u8) -> Option<OnOff>
     }
 }
 
-// The rows that a text of digits 0 and 1 spells, row 0 first.
+/// The rows that a text of digits 0 and 1 spells, row 0 first.
 pub fn rows_from(heap: Global, text: &str) -> Result<Vec<OnOff>, RowsError>
     ensures { Read text.now result }
 {
@@ -26,7 +26,7 @@ pub fn rows_from(heap: Global, text: &str) -> Result<Vec<OnOff>, RowsError>
     Ok(rows)
 }
 
-// Writes the rows that digits 0 and 1 spell into the front of the room, row 0 first.
+/// Writes the rows that digits 0 and 1 spell into the front of the room, row 0 first.
 pub fn copy_rows(digits: &[u8], room: &mut [OnOff]) -> Option<()>
     ensures { Copies digits.now room.old room.new result }
 {

@@ -3,7 +3,7 @@ ghost use Rattle.typed_rows.specs.declared.rows_error.RowsError.TheVariants.{Out
 
 use std::alloc::AllocFailed;
 
-// Why a text was not read as rows.
+/// Why a text was not read as rows.
 #[derive(Clone, Copy, PartialEq, Eq, Debug)]
 pub enum RowsError {
     NotDigits,

@@ -2,7 +2,7 @@ ghost use Rattle.std.specs.Prelude.{Some};
 
 use std::fmt;
 
-// How many inputs and rows a table has.
+/// How many inputs and rows a table has.
 #[derive(Clone, Copy, PartialEq, Eq, Debug)]
 pub struct Size {
     pub inputs: usize,

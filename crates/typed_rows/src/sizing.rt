@@ -4,7 +4,7 @@ use crate::inputs::inputs_for;
 use refusals::Refusal;
 use tables::Table;
 
-// The table of these rows, with the number of inputs that so many rows ask for.
+/// The table of these rows, with the number of inputs that so many rows ask for.
 pub fn table_of<R>(rows: &[R]) -> Result<Table<'_, R>, Refusal>
     ensures { IsSized rows.now result }
 {

@@ -8,7 +8,7 @@ use refusals::Refusal;
 use rows::RowKind;
 use trial::{Failed, try_wiring};
 
-// Why no sheet was printed. What there was to print is handed back.
+/// Why no sheet was printed. What there was to print is handed back.
 #[derive(Drop)]
 pub enum Stopped {
     Failed(Failed),
@@ -16,6 +16,7 @@ pub enum Stopped {
 }
 
 impl Stopped {
+    /// The refusal that stopped it.
     pub fn refusal(&self) -> Refusal
         ensures { result ≡ stop_refusal self.now }
     {
@@ -42,7 +43,7 @@ impl From<TooShort> for Stopped {
     }
 }
 
-// Tries a proposal on a wired sample, and prints its sheet if it passes: one trial, and one sheet.
+/// Tries a proposal on a wired sample, and prints its sheet if it passes: one trial, and one sheet.
 pub fn try_and_print<R: RowKind>(
     proposal: Proposal,
     rows: &[R],

@@ -1,3 +1,4 @@
+//! The sheet of a wiring that passed its trial: printed once, and read back.
 #![tactic(auto)]
 
 mod bench;

@@ -6,13 +6,14 @@ use refusals::Refusal;
 use texts::Text;
 use trial::Tried;
 
-// Memory that a sheet did not go into. The tried wiring is as it was, and may be printed into other memory.
+/// Memory that a sheet did not go into. The tried wiring is as it was, and may be printed into other memory.
 #[derive(Drop)]
 pub struct TooShort {
     pub tried: Tried,
 }
 
 impl TooShort {
+    /// The refusal of memory that is too short.
     pub fn refusal(&self) -> Refusal
         ensures { result ≡ MemoryTooShort }
     {
@@ -36,8 +37,8 @@ fn text_of(tried: &Tried) -> Text
     text
 }
 
-// Prints the sheet of a tried wiring into the front of the memory, and answers how long it is. That uses the tried wiring
-// up: it is printed once. Memory of 47 bytes is always enough.
+/// Prints the sheet of a tried wiring into the front of the memory, and answers how long it is. That uses the tried wiring
+/// up: it is printed once. Memory of 47 bytes is always enough.
 pub fn print_sheet(tried: Tried, memory: &mut [u8]) -> Result<usize, TooShort>
     ensures answer { Printed tried memory.old result memory.new }
     ensures short { length (sheet_text tried.number tried.wiring) ≤ 47 }

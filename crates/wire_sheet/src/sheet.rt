@@ -4,7 +4,7 @@ use tables::Wiring;
 
 mod reading;
 
-// What a wire line says: the number of a part, and the wiring of a card's inputs to its pins.
+/// What a wire line says: the number of a part, and the wiring of a card's inputs to its pins.
 #[derive(Clone, Copy, Debug)]
 pub struct Sheet {
     number: u32,

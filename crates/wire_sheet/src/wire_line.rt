@@ -19,7 +19,7 @@ fn pins(cursor: &mut Cursor) -> Option<ToList>
     Some(list)
 }
 
-// What a wire line says, so far as it can make a sheet.
+/// What a wire line says, so far as it can make a sheet.
 #[derive(Drop)]
 pub struct WireLine {
     pub number: u32,
@@ -30,6 +30,7 @@ pub struct WireLine {
 impl WireLine {
     ghost use Rattle.wire_sheet.specs.Lines.{Said, Spells, Holds};
 
+    /// What a wire line says, if the bytes are one.
     pub fn read(line: &[u8]) -> Option<WireLine>
         ensures { MatchOption result ((said : Said) → ¬ (Spells line.now said)) (λ held. (said : Said) × Spells line.now said × Holds held said) }
     {

@@ -5,6 +5,7 @@ use crate::text::Text;
 use refusals::Refusal;
 
 impl Text {
+    /// How many bytes it has.
     pub fn len(&self) -> usize
         ensures value { result ≡ length self.now }
         ensures few { result ≤ 64 }
@@ -12,12 +13,14 @@ impl Text {
         self.bytes.len()
     }
 
+    /// Whether it has no byte.
     pub fn is_empty(&self) -> bool
         ensures { result ≡ (length self.now == 0) }
     {
         self.bytes.is_empty()
     }
 
+    /// Its bytes.
     pub fn as_bytes(&self) -> &[u8]
         ensures value { result.now ≡ self.now }
         ensures few { length result.now ≤ 64 }
@@ -25,7 +28,7 @@ impl Text {
         self.bytes.as_slice()
     }
 
-    // Writes the text into the front of the memory, and answers how long it is.
+    /// Writes the text into the front of the memory, and answers how long it is.
     pub fn copy_into(&self, memory: &mut [u8]) -> Result<usize, Refusal>
         ensures { Copied self.now memory.old result memory.new }
     {

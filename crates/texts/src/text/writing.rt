@@ -6,6 +6,7 @@ use crate::text::Text;
 use arrayvec::ArrayVec;
 
 impl Text {
+    /// A text of no bytes.
     pub fn empty() -> Text
         ensures { result ≡ [] }
     {
@@ -14,7 +15,7 @@ impl Text {
         }
     }
 
-    // What is put has to have room: whoever puts a text together knows how long it can get.
+    /// What is put has to have room: whoever puts a text together knows how long it can get.
     pub fn put(&mut self, bytes: &[u8])
         requires { length self.old + length bytes.now ≤ 64 }
         ensures text { self.new ≡ self.old ++ bytes.now }
@@ -23,7 +24,7 @@ impl Text {
         self.bytes.try_extend_from_slice(bytes).unwrap();
     }
 
-    // The number's decimal digits.
+    /// The number's decimal digits.
     #[tactic(auto, using(crate::proofs::Lengths::steps))]
     pub fn put_number(&mut self, number: u32)
         requires { length self.old + length (decimal number) ≤ 64 }
@@ -36,7 +37,7 @@ impl Text {
         self.put(&[b'0' + (number % 10) as u8]);
     }
 
-    // Each pin after a space: the inside of a to-list.
+    /// Each pin after a space: the inside of a to-list.
     pub fn put_pins(&mut self, pins: &[u8])
         requires { length self.old + length (pins_text pins.now) ≤ 64 }
         ensures text { self.new ≡ self.old ++ pins_text pins.now }

@@ -8,7 +8,7 @@ use crate::token::{Sign, Token, Word};
 impl<'a> Cursor<'a> {
     ghost use Rattle.tokens.specs.Cursors.{rest, Run, EatsSign, EatsWord, EatsNumber, EatsRows};
 
-    // At the start of a line.
+    /// At the start of a line.
     pub fn new(line: &'a [u8]) -> Cursor<'a>
         ensures line { result.line ≡ line.entry }
         ensures start { result.at ≡ 0 }
@@ -16,7 +16,7 @@ impl<'a> Cursor<'a> {
         Cursor { line, at: 0 }
     }
 
-    // Whether nothing of the line is left.
+    /// Whether nothing of the line is left.
     pub fn is_at_end(&self) -> bool
         ensures { IsTrue result ↔ (rest self.now ≡ []) }
     {
@@ -34,7 +34,7 @@ impl<'a> Cursor<'a> {
         &rest[..end.unwrap_or(rest.len())]
     }
 
-    // Goes past this sign, if it comes next.
+    /// Goes past this sign, if it comes next.
     pub fn sign(&mut self, sign: Sign) -> Option<Token<'a>>
         ensures { EatsSign sign self.old self.new result }
     {
@@ -47,7 +47,7 @@ impl<'a> Cursor<'a> {
         Some(Token::Sign { sign, at })
     }
 
-    // Goes past this word, if it comes next and no letter follows it.
+    /// Goes past this word, if it comes next and no letter follows it.
     pub fn word(&mut self, word: Word) -> Option<Token<'a>>
         ensures { EatsWord word self.old self.new result }
     {
@@ -60,7 +60,7 @@ impl<'a> Cursor<'a> {
         Some(Token::Word { word, at })
     }
 
-    // Goes past a number of one to five digits, if one comes next and no digit follows it.
+    /// Goes past a number of one to five digits, if one comes next and no digit follows it.
     pub fn number(&mut self) -> Option<Token<'a>>
         ensures { EatsNumber self.old self.new result }
     {
@@ -71,7 +71,7 @@ impl<'a> Cursor<'a> {
         Some(Token::Number { value, run, at })
     }
 
-    // Goes past the digits 0 and 1 of rows, as far as they go, if one comes next.
+    /// Goes past the digits 0 and 1 of rows, as far as they go, if one comes next.
     pub fn rows(&mut self) -> Option<Token<'a>>
         ensures { EatsRows self.old self.new result }
     {

@@ -12,7 +12,7 @@ use crate::token::{Sign, Token, Word};
 impl<'a> Cursor<'a> {
     ghost use Rattle.tokens.specs.Cursors.{rest, Ends};
 
-    // Goes past an opening bracket and a word, and says which it is.
+    /// Goes past an opening bracket and a word, and says which it is.
     pub fn opening(&mut self) -> Option<Word>
         ensures { MatchOption result ((word : Word) (tail : List ℕ) → Ends Letter tail → rest self.old ≢ opening_text word tail) (λ word. Ends Letter (rest self.new) × (rest self.old ≡ opening_text word (rest self.new))) }
     {
@@ -23,7 +23,7 @@ impl<'a> Cursor<'a> {
         Some(word)
     }
 
-    // Goes past an opening bracket and this word.
+    /// Goes past an opening bracket and this word.
     pub fn open(&mut self, word: Word) -> Option<()>
         ensures { MatchOption result ((tail : List ℕ) → Ends Letter tail → rest self.old ≢ opening_text word tail) (λ _. rest self.old ≡ opening_text word (rest self.new)) }
     {
@@ -32,7 +32,7 @@ impl<'a> Cursor<'a> {
         Some(())
     }
 
-    // The number that comes after a space.
+    /// The number that comes after a space.
     pub fn next_number(&mut self) -> Option<u32>
         ensures { MatchOption result ((n : ℕ) (tail : List ℕ) → IsShort n → Ends Digit tail → rest self.old ≢ codes " " ++ (decimal n ++ tail)) (λ n. IsShort n × Ends Digit (rest self.new) × (rest self.old ≡ codes " " ++ (decimal n ++ rest self.new))) }
     {
@@ -43,7 +43,7 @@ impl<'a> Cursor<'a> {
         Some(value)
     }
 
-    // The number of inputs, as in ` (pins 3)`.
+    /// The number of inputs, as in ` (pins 3)`.
     pub fn inputs(&mut self) -> Option<usize>
         ensures { MatchOption result ((n : ℕ) (tail : List ℕ) → IsShort n → rest self.old ≢ inputs_text n tail) (λ n. IsShort n × (rest self.old ≡ inputs_text n (rest self.new))) }
     {
@@ -54,7 +54,7 @@ impl<'a> Cursor<'a> {
         Some(inputs as usize)
     }
 
-    // The line ends after a closing bracket and a newline.
+    /// The line ends after a closing bracket and a newline.
     pub fn end(mut self) -> Option<()>
         ensures { MatchOption result (rest self.entry ≢ codes ")\n") (λ _. rest self.entry ≡ codes ")\n") }
     {

@@ -8,13 +8,14 @@ use rows::RowKind;
 use tables::Wiring;
 
 impl Tried {
+    /// The number of the part.
     pub fn number(&self) -> u32
         ensures { result ≡ self.now.number }
     {
         self.number
     }
 
-    // From each card input to a pin.
+    /// From each card input to a pin.
     pub fn wiring(&self) -> &Wiring
         ensures { result.now ≡ self.now.wiring }
     {
@@ -37,8 +38,8 @@ fn fault_of<R: RowKind>(inputs: usize, rows: &[R], readings: &[R]) -> Option<Fau
         .map(|row| Fault::Differs { row })
 }
 
-// Tries a wiring on a sample that was wired by it: it passes where the reading of each row is the same as the card's
-// row.
+/// Tries a wiring on a sample that was wired by it: it passes where the reading of each row is the same as the card's
+/// row.
 pub fn try_wiring<R: RowKind>(
     proposal: Proposal,
     rows: &[R],

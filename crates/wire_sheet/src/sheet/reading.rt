@@ -11,20 +11,21 @@ use tables::Wiring;
 const LONGEST_LINE: usize = 1100;
 
 impl Sheet {
+    /// The number of the part.
     pub fn number(&self) -> u32
         ensures { result ≡ self.now.number }
     {
         self.number
     }
 
-    // From each card input to a pin.
+    /// From each card input to a pin.
     pub fn wiring(&self) -> &Wiring
         ensures { result.now ≡ self.now.wiring }
     {
         &self.wiring
     }
 
-    // Reads a wire line, its newline included. A sheet is read from its own text and from no other.
+    /// Reads a wire line, its newline included. A sheet is read from its own text and from no other.
     pub fn read(line: &[u8]) -> Result<Sheet, Refusal>
         ensures answer { Reads line.now result }
         ensures exact { (sheet : Sheet) → (result ≡ Ok sheet) ↔ (line.now ≡ sheet_text sheet.number sheet.wiring) }
