@@ -1,5 +1,1 @@
-pub mod InOrder
 pub mod Listing
-pub mod Complete
-pub mod Counting
-pub mod Firsts

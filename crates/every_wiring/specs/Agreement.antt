@@ -1,16 +1,12 @@
--- When a card and a part agree, in this program's own words: rows are numbers, and a wiring is the list of its pins.
-use Rattle.std.specs.Prelude.{◌≡◌, ℕ, ◌+◌, ◌*◌, ◌/◌, ◌%◌, ◌^◌, ◌<◌, List, [], ◌∷◌, length, slice_get, min}
+-- When a card and a part agree, in this matcher's own words: a row is the number of what it does.
+use Rattle.std.specs.Prelude.{◌≡◌, ℕ, ◌+◌, ◌*◌, ◌/◌, ◌%◌, ◌^◌, ◌<◌, List, [], ◌∷◌, length, slice_get}
 
--- what the bit of a pin is worth, and 64 past the sixth
-abbrev pub worth_of : ℕ → ℕ
-worth_of pin = 2 ^ min pin 6
-
--- the row in which each input's pin has the value that the input has in this row
-abbrev pub carried_row : List ℕ → ℕ → ℕ
-carried_row [] row = 0
-carried_row (pin ∷ pins) row = row % 2 * worth_of pin + carried_row pins (row / 2)
+-- the row in which the pin of each input has the value that the input has in this row
+abbrev pub part_row : List ℕ → ℕ → ℕ
+part_row [] row = 0
+part_row (pin ∷ pins) row = row % 2 * 2 ^ pin + part_row pins (row / 2)
 
 -- each row of the card does what the part does in the row that it is carried to
 abbrev pub Agrees : List ℕ → List ℕ → List ℕ → Type 0
 Agrees card part pins =
-    (length card ≡ length part) × ((row : ℕ) → row < length card → slice_get part (carried_row pins row) ≡ slice_get card row)
+    (length card ≡ length part) × ((row : ℕ) → row < length card → slice_get part (part_row pins row) ≡ slice_get card row)

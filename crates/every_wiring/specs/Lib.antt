@@ -1,4 +1,3 @@
 pub mod Agreement
-pub mod Trying
+pub mod Lists
 pub mod Wirings
-pub mod Exchanging

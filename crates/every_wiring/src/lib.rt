@@ -1,13 +1,7 @@
+//! A matcher that tries every wiring of at most six inputs. It shares no code with the library that it is compared with.
 #![tactic(auto)]
 
 mod agreement;
-mod bits;
-mod exchanging;
-mod pins;
 mod wirings;
 
-pub use agreement::{agree, carried, count_agreeing, first_agreeing};
-pub use bits::{MOST_INPUTS, worth};
-pub use exchanging::lowest_exchangeable;
-pub use pins::Pins;
 pub use wirings::Wirings;

@@ -1,76 +1,91 @@
-ghost use Rattle.std.specs.Prelude.{◌≡◌, ◌≤◌, ◌<◌, ◌++◌, [], All, IfOk, OnOk, length, map};
-ghost use Rattle.std.specs.List.{flat_map, range_with_len};
-ghost use Rattle.every_wiring.specs.Trying.{pins_of};
-ghost use Rattle.every_wiring.specs.Wirings.{longer_to, wirings_to, AreListed, AreWirings};
+ghost use Rattle.std.specs.Prelude.{◌≡◌, ◌≤◌, ◌∷◌, ◌++◌, IfOk, OnOk, map};
+ghost use Rattle.every_wiring.specs.Lists.{pins_of};
+ghost use Rattle.every_wiring.specs.Wirings.{longer_by, longer_to, wirings_to};
 
-use crate::bits::MOST_INPUTS;
-use crate::pins::Pins;
+use crate::agreement::agree;
 use std::alloc::{AllocError, Global};
 
-// Puts down these pins with each pin that they do not have yet.
-fn push_longer(longer: &mut Vec<Pins>, pins: &Pins, inputs: u8) -> Result<(), AllocError>
-    requires { length (pins_of pins.now) < 6 }
-    ensures { OnOk result (map pins_of longer.new.items ≡ map pins_of longer.old.items ++ longer_to (pins_of pins.now) inputs) }
+fn with_first(alloc: Global, pin: u8, pins: &[u8]) -> Result<Vec<u8>, AllocError>
+    ensures { IfOk result (λ longer. longer.items ≡ pin ∷ pins.now) }
 {
-    for pin in 0..inputs {
-        if !pins.has(pin) {
-            longer.push(pins.with(pin))?;
+    let mut longer = Vec::new(alloc);
+    longer.push(pin)?;
+    longer.extend_from_slice(pins)?;
+    Ok(longer)
+}
+
+// Puts the pin before those of the lists that do not have it.
+fn push_longer(
+    alloc: Global,
+    longer: &mut Vec<Vec<u8>>,
+    lists: &[Vec<u8>],
+    pin: u8,
+) -> Result<(), AllocError>
+    ensures { OnOk result
+        (pins_of longer.new.items ≡ pins_of longer.old.items ++ longer_by (pins_of lists.now) pin) }
+{
+    for pins in lists {
+        if !pins.contains(&pin) {
+            longer.push(with_first(alloc, pin, pins.as_slice())?)?;
         }
     }
     Ok(())
 }
 
-// The beginnings, each with every pin that it does not have yet.
-fn extended(heap: Global, begun: &[Pins], inputs: u8) -> Result<Vec<Pins>, AllocError>
-    requires { All (λ pins. length (pins_of pins) < 6) begun.now }
-    ensures { IfOk result (λ longer. map pins_of longer.items ≡ flat_map (λ pins. longer_to pins inputs) (map pins_of begun.now)) }
+// Every wiring of this many inputs, in dictionary order.
+fn every_wiring(alloc: Global, inputs: u8) -> Result<Vec<Vec<u8>>, AllocError>
+    ensures { IfOk result (λ lists. pins_of lists.items ≡ wirings_to inputs) }
 {
-    let mut longer = Vec::new(heap);
-    for pins in begun {
-        push_longer(&mut longer, pins, inputs)?;
-    }
-    Ok(longer)
-}
-
-// Every wiring for so many inputs, in dictionary order.
-fn every_wiring(heap: Global, inputs: u8) -> Result<Vec<Pins>, AllocError>
-    requires { inputs ≤ 6 }
-    ensures { IfOk result (λ wirings. map pins_of wirings.items ≡ wirings_to inputs) }
-{
-    let mut wirings = Vec::new(heap);
-    wirings.push(Pins::NONE)?;
+    let mut lists = Vec::new(alloc);
+    lists.push(Vec::new(alloc))?;
     for _placed in 0..inputs {
-        wirings = extended(heap, wirings.as_slice(), inputs)?;
+        let mut longer = Vec::new(alloc);
+        for pin in 0..inputs {
+            push_longer(alloc, &mut longer, lists.as_slice(), pin)?;
+        }
+        lists = longer;
     }
-    Ok(wirings)
+    Ok(lists)
 }
 
-// The wirings for each number of inputs, none to six.
+/// Every wiring of some number of inputs and no other, in dictionary order. A wiring is the list of its pins.
 #[derive(Drop)]
 pub struct Wirings {
-    lists: Vec<Vec<Pins>>,
-    ghost listed: { map (λ list. map pins_of list.items) lists.items ≡ map wirings_to (range_with_len 0 7) },
+    pub inputs: u8,
+    pub list: Vec<Vec<u8>>,
+    ghost few: { inputs ≤ 6 },
+    ghost listed: { pins_of list.items ≡ wirings_to inputs },
 }
 
 impl Wirings {
-    pub fn new(heap: Global) -> Result<Wirings, AllocError>
-        ensures { IfOk result (λ wirings. AreListed (map (λ list. map pins_of list.items) wirings.lists.items)) }
+    ghost use Rattle.every_wiring.specs.Agreement.{Agrees};
+    ghost use Rattle.every_wiring.specs.Wirings.{AreAll, IsWiring};
+
+    /// Lists every wiring.
+    pub fn new(alloc: Global, inputs: u8) -> Result<Wirings, AllocError>
+        requires { inputs ≤ 6 }
+        ensures { IfOk result (λ wirings. AreAll (IsWiring inputs) (pins_of wirings.list.items)) }
     {
-        let mut lists = Vec::new(heap);
-        for inputs in 0..=MOST_INPUTS as u8 {
-            lists.push(every_wiring(heap, inputs)?)?;
-        }
-        Ok(Wirings { lists })
+        let list = every_wiring(alloc, inputs)?;
+        Ok(Wirings { inputs, list })
     }
 
-    // Every wiring for so many inputs, in dictionary order, and none past six.
-    pub fn of(&self, inputs: usize) -> &[Pins]
-        ensures every { inputs ≤ 6 → AreWirings inputs (map pins_of result.now) }
-        ensures none { 6 < inputs → result.now ≡ [] }
+    /// The wirings under which card and part agree, in dictionary order: the first of them is the first of all.
+    pub fn agreeing(
+        &self,
+        alloc: Global,
+        card: &[u16],
+        part: &[u16],
+    ) -> Result<Vec<&[u8]>, AllocError>
+        ensures { IfOk result (λ agreeing.
+            AreAll (λ pins. IsWiring self.now.inputs pins × Agrees card.now part.now pins) (map (λ pins. pins.now) agreeing.items)) }
     {
-        match self.lists.get(inputs) {
-            Some(wirings) => wirings.as_slice(),
-            None => &[],
+        let mut agreeing = Vec::new(alloc);
+        for pins in self.list.as_slice() {
+            if agree(card, part, pins.as_slice()) {
+                agreeing.push(pins.as_slice())?;
+            }
         }
+        Ok(agreeing)
     }
 }

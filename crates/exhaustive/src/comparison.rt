@@ -1,336 +1,210 @@
-ghost use Rattle.std.specs.Prelude.{◌≡◌, ℕ, ◌+◌, ◌++◌, ◌∷◌, [], ◌<◌, ◌≤◌, if◌then◌else◌, map, nat_lt, vec_len, OnOk, slice_index};
-ghost use Rattle.every_wiring.specs.Agreement.{Agrees};
-ghost use Rattle.every_wiring.specs.Exchanging.{IsLowest};
-ghost use Rattle.exhaustive.specs.Codes.{codes_of};
-ghost use Rattle.exhaustive.specs.Counts.{at_most};
-ghost use Rattle.exhaustive.specs.Tallies.{counts, PairCounted};
-ghost use Rattle.every_wiring.specs.Trying.{pins_of, Counted, FirstOfAll};
-ghost use Rattle.every_wiring.specs.Wirings.{AreWirings};
-
-use crate::failure::Failure;
 use crate::kind::Kind;
-use crate::printing::{PinList, RowList};
-use crate::small_table::Codes;
-use crate::tally::Tally;
-use every_wiring::{Pins, Wirings, agree, count_agreeing, first_agreeing, lowest_exchangeable};
-use fitting::{spread_by, strikes_by, struck_by, wiring_by};
-use matching::Strikes;
-use signatures::{Blank, Breakup, Cofactor, Neighbour, Refined, STANDARD_PILE, Signature};
-use std::alloc::{AllocError, Global};
-use std::fmt;
-use symmetry::{classes_of, write_classes};
+use draws::Random;
+use every_wiring::Wirings;
+use fitting::{spread_by, wiring_by};
+use inventory::Shelf;
+use matching::{Strikes, first_wiring};
+use refusals::Refusal;
+use signatures::{Breakup, Cofactor, Neighbour, Refined, STANDARD_PILE, Signature};
+use std::io::{ErrorKind, Result};
+use std::result;
+use symmetry::classes_of;
 use tables::{Table, Wiring, agrees};
+use typed_rows::table_of;
 
-// More differences than this are counted and not told.
-const MOST_TOLD: usize = 20;
-
-// A card and a part, and what trying every wiring finds of them.
-#[derive(Drop)]
-pub struct Pair<'a, R> {
-    card: &'a Table<'a, R>,
-    part: &'a Table<'a, R>,
-    card_codes: Codes,
-    part_codes: Codes,
-    wirings: &'a [Pins],
-    pub first: Option<Pins>,
-    agreeing: usize,
+/// How much was compared.
+#[derive(Clone, Copy, Debug, Default)]
+pub struct Totals {
+    pairs: u64,
+    pairs_that_agree: u64,
+    others_left_open: u64,
+    row_checks_passed: u64,
+    searches_with_strikes: u64,
+    of_these_found: u64,
+    fits: u64,
+    of_these_refused: u64,
+    tables_classed: u64,
+    pub differences: u64,
 }
 
-impl<'a, R: Kind> Pair<'a, R> {
-    pub fn of(wirings: &'a Wirings, card: &'a Table<'a, R>, part: &'a Table<'a, R>) -> Pair<'a, R>
-        ensures first { card.now.inputs ≤ 6 → FirstOfAll (Agrees (codes_of R.doing card.now.rows.now) (codes_of R.doing part.now.rows.now)) card.now.inputs result.first }
-        ensures wirings { card.now.inputs ≤ 6 → AreWirings card.now.inputs (map pins_of result.wirings.now) }
-        ensures agreeing { Counted (Agrees (codes_of R.doing card.now.rows.now) (codes_of R.doing part.now.rows.now)) (map pins_of result.wirings.now) result.agreeing }
-        ensures card { result.card ≡ card.entry }
-        ensures part { result.part ≡ part.entry }
-    {
-        let (card_codes, part_codes) = (Codes::of(card.rows), Codes::of(part.rows));
-        let wirings = wirings.of(card.inputs);
-        let (cards, parts) = (card_codes.as_slice(), part_codes.as_slice());
-        let first = first_agreeing(wirings, cards, parts);
-        let agreeing = count_agreeing(wirings, cards, parts);
-        Pair {
-            card,
-            part,
-            card_codes,
-            part_codes,
-            wirings,
-            first,
-            agreeing,
-        }
-    }
-
-    // The pins of the first agreeing wiring.
-    fn first_pins(&self) -> Option<&[u8]> {
-        match &self.first {
-            Some(pins) => Some(pins.as_slice()),
-            None => None,
-        }
-    }
-
-    fn agrees(&self, pins: &Pins) -> bool {
-        agree(
-            self.card_codes.as_slice(),
-            self.part_codes.as_slice(),
-            pins.as_slice(),
-        )
-    }
-
-    // Whether an agreeing wiring uses a pair that is struck.
-    fn uses_struck(&self, strikes: &Strikes) -> bool {
-        if self.agreeing == 0 {
-            return false;
-        }
-        for pins in self.wirings {
-            if is_stricken(strikes, pins.as_slice()) && self.agrees(pins) {
-                return true;
-            }
-        }
-        false
-    }
-}
-
-impl<R: Kind> fmt::Display for Pair<'_, R> {
-    fn fmt<W: fmt::Write>(&self, f: &mut fmt::Formatter<W>) -> fmt::Result {
-        let inputs = self.card.inputs;
-        let (card, part) = (RowList(self.card.rows), RowList(self.part.rows));
-        write!(f, "{inputs} inputs, card {card}, part {part}")
-    }
-}
-
-fn is_stricken(strikes: &Strikes, pins: &[u8]) -> bool {
-    pins.iter()
-        .enumerate()
-        .any(|(input, &pin)| strikes.is_struck(input, usize::from(pin)))
-}
-
-fn struck_pairs(strikes: &Strikes, inputs: usize) -> usize {
-    let mut pairs = 0usize;
-    for input in 0..inputs {
-        let pins = (0..inputs)
-            .filter(|&pin| strikes.is_struck(input, pin))
-            .count();
-        pairs = pairs.saturating_add(pins);
-    }
-    pairs
-}
-
-// The classes of a table's inputs, worked out by exchanging two inputs in every row.
-fn due_classes<R: Kind>(table: &Table<R>) -> [u8; 10]
-    ensures { (input : ℕ) → input < table.now.inputs → IsLowest (codes_of R.doing table.now.rows.now) input (slice_index result input) }
-{
-    let codes = Codes::of(table.rows);
-    let mut due = [255; 10];
-    for input in 0..table.inputs {
-        due[input] = lowest_exchangeable(codes.as_slice(), input) as u8;
-    }
-    due
-}
-
-// What was compared, and what differed.
+/// What is compared, and what came of it so far.
 #[derive(Drop)]
 pub struct Comparison<'a> {
-    pub heap: Global,
-    pub wirings: &'a Wirings,
-    pub tally: Tally,
-    pub told: Vec<String>,
+    pub rt: &'a HostRuntime,
+    /// The wirings of none to six inputs.
+    pub wirings: &'a [Wirings],
+    pub random: Random,
+    pub totals: Totals,
+}
+
+// A card and a part, and the wirings under which they agree.
+#[derive(Clone, Copy)]
+struct Pair<'t, R>(&'t Table<'t, R>, &'t Table<'t, R>, &'t [&'t [u8]]);
+
+fn add(total: &mut u64, count: usize) {
+    *total = total.saturating_add(count as u64);
+}
+
+// What was asked for. A refusal of what is lawful ends the program.
+fn granted<T: Drop>(asked: result::Result<T, Refusal>) -> Result<T> {
+    asked.map_err(|_| ErrorKind::InvalidInput.into())
+}
+
+fn is_wiring(found: Option<Wiring>, due: Option<&&[u8]>) -> bool {
+    match &found {
+        Some(wiring) => due == Some(&wiring.pins()),
+        None => due.is_none(),
+    }
+}
+
+fn uses_struck(pins: &[u8], strikes: &Strikes) -> bool {
+    let mut pairs = pins.iter().enumerate();
+    pairs.any(|(input, &pin)| strikes.is_struck(input, usize::from(pin)))
+}
+
+fn is_among(pins: &[u8], wirings: &[&[u8]]) -> bool {
+    wirings.iter().any(|other| *other == pins)
+}
+
+// The number of a part on a shelf. It does not rise with the slots.
+fn number_of(k: usize) -> u32 {
+    9999 - (k % 64 * 37 % 64 * 150) as u32
 }
 
 impl<'a> Comparison<'a> {
-    pub fn new(heap: Global, wirings: &'a Wirings) -> Comparison<'a>
-        ensures tally { result.tally ≡ Tally.EMPTY }
-        ensures told { result.told.items ≡ [] }
-        ensures wirings { result.wirings.now ≡ wirings.now }
-    {
-        Comparison {
-            heap,
-            wirings,
-            tally: Tally::EMPTY,
-            told: Vec::new(heap),
+    // What the rows do.
+    fn codes<R: Kind>(&self, rows: &[R]) -> Result<Vec<u16>> {
+        Ok(rows.iter().map(|row| row.code()).collect(self.rt.alloc())?)
+    }
+
+    // The wirings under which rows of so many inputs agree.
+    fn agreeing<R: Kind>(&self, n: usize, card: &[R], part: &[R]) -> Result<Vec<&'a [u8]>> {
+        let (card, part, all) = (self.codes(card)?, self.codes(part)?, self.wirings.get(n));
+        let wirings = all.ok_or(ErrorKind::InvalidInput)?;
+        Ok(wirings.agreeing(self.rt.alloc(), card.as_slice(), part.as_slice())?)
+    }
+
+    // Counts a difference where something does not hold, and prints it with what the rows do.
+    fn check<R: Kind>(&mut self, card: &[R], part: &[R], name: &str, holds: bool) -> Result<()> {
+        if holds {
+            return Ok(());
         }
+        let (card, part) = (self.codes(card)?, self.codes(part)?);
+        add(&mut self.totals.differences, 1);
+        println!(self.rt; "{name} differs: card {card:?}, part {part:?}")
     }
 
-    // Counts a difference, and tells it while few are told.
-    pub fn tell(&mut self, text: String) -> Result<(), AllocError>
-        ensures counts { counts self.new.tally ≡ counts self.old.tally }
-        ensures differences { self.new.tally.differences ≡ at_most (self.old.tally.differences + 1) }
-        ensures rises { self.old.tally.differences ≤ self.new.tally.differences }
-        ensures told { OnOk result (self.new.told.items ≡ (if nat_lt (vec_len self.old.told) 20 then self.old.told.items ++ text ∷ [] else self.old.told.items)) }
-        ensures wirings { self.new.wirings ≡ self.old.wirings }
-    {
-        self.tally.differ();
-        if self.told.len() < MOST_TOLD {
-            self.told.push(text)?;
+    // Compares the search helped by a pile, and the spread of the pile.
+    fn by<R: Kind, P: Signature<R>>(&mut self, pair: Pair<R>, name: &str, pile: &P) -> Result<()> {
+        let Pair(card, part, agreeing) = pair;
+        let finds = is_wiring(wiring_by(pile, card, part), agreeing.first());
+        let bounds = spread_by(pile, card, part) as usize >= agreeing.len();
+        self.check(card.rows, part.rows, name, finds && bounds)
+    }
+
+    // Compares the search with no pair struck and with some, which are drawn.
+    fn search<R: Kind>(&mut self, pair: Pair<R>) -> Result<()> {
+        let Pair(card, part, agreeing) = pair;
+        let mut strikes = Strikes::none();
+        let holds = is_wiring(first_wiring(card, part, &strikes), agreeing.first());
+        self.check(card.rows, part.rows, "the search", holds)?;
+        for _ in 0..self.random.below(card.inputs + 2) {
+            let input = self.random.below(card.inputs + 1);
+            strikes.strike(input, self.random.below(card.inputs + 1));
         }
-        Ok(())
+        let mut wirings = agreeing.iter();
+        let due = wirings.find(|pins| !uses_struck(pins, &strikes));
+        add(&mut self.totals.searches_with_strikes, 1);
+        add(&mut self.totals.of_these_found, usize::from(due.is_some()));
+        let holds = is_wiring(first_wiring(card, part, &strikes), due);
+        self.check(card.rows, part.rows, "the search with strikes", holds)
     }
 
-    // Tells a difference over a pair.
-    fn differ<R: Kind>(
-        &mut self,
-        pair: &Pair<R>,
-        asked: &str,
-        name: &str,
-        library: impl fmt::Display + Drop,
-        due: impl fmt::Display + Drop,
-    ) -> Result<(), AllocError>
-        ensures counts { counts self.new.tally ≡ counts self.old.tally }
-        ensures differences { self.old.tally.differences ≤ self.new.tally.differences }
-        ensures wirings { self.new.wirings ≡ self.old.wirings }
-    {
-        let text = format!(in self.heap;
-            "{asked} with {name}, {pair}: the library says {library}, every wiring {due}"
-        )?;
-        self.tell(text)
-    }
-
-    fn wiring<R: Kind, P: Signature<R>>(
-        &mut self,
-        name: &str,
-        pile: &P,
-        pair: &Pair<R>,
-    ) -> Result<(), AllocError>
-        ensures counts { counts self.new.tally ≡ counts self.old.tally }
-        ensures differences { self.old.tally.differences ≤ self.new.tally.differences }
-        ensures wirings { self.new.wirings ≡ self.old.wirings }
-    {
-        let wiring = wiring_by(pile, pair.card, pair.part);
-        let pins = match &wiring {
-            Some(wiring) => Some(wiring.pins()),
-            None => None,
+    // Compares all that is asked of a card and a part; the row check at the first agreeing wiring or at one that is drawn.
+    fn pair<R: Kind>(&mut self, pair: Pair<R>) -> Result<()> {
+        let Pair(card, part, agreeing) = pair;
+        let agree = !agreeing.is_empty();
+        let open = !agree && spread_by(&STANDARD_PILE, card, part) > 0;
+        add(&mut self.totals.pairs, 1);
+        add(&mut self.totals.pairs_that_agree, usize::from(agree));
+        add(&mut self.totals.others_left_open, usize::from(open));
+        self.search(pair)?;
+        self.by(pair, "cofactor", &Cofactor)?;
+        self.by(pair, "breakup", &Breakup)?;
+        self.by(pair, "neighbour", &Neighbour)?;
+        self.by(pair, "refined cofactor", &Refined(Cofactor))?;
+        self.by(pair, "the standard pile", &STANDARD_PILE)?;
+        let wiring = match agreeing.first() {
+            Some(pins) if self.random.below(2) == 0 => granted(Wiring::new(card.inputs, pins))?,
+            _ => self.random.wiring(card.inputs),
         };
-        let due = pair.first_pins();
-        if pins != due {
-            self.differ(pair, "the first wiring", name, PinList(pins), PinList(due))?;
+        let passes = agrees(card, part, &wiring);
+        add(&mut self.totals.row_checks_passed, usize::from(passes));
+        let holds = passes == is_among(wiring.pins(), agreeing);
+        self.check(card.rows, part.rows, "the row check", holds)
+    }
+
+    // Compares the classes of a table's inputs: two are of one class when the table agrees with itself under the wiring
+    // that exchanges them.
+    fn classes<R: Kind>(&mut self, table: &Table<R>) -> Result<()> {
+        let agreeing = self.agreeing(table.inputs, table.rows, table.rows)?;
+        add(&mut self.totals.tables_classed, 1);
+        for (input, &class) in classes_of(table)[..table.inputs].iter().enumerate() {
+            let mut due = input;
+            for lower in (0..input).rev() {
+                let mut pins = [0, 1, 2, 3, 4, 5, 6, 7, 8, 9];
+                pins.swap(lower, input);
+                if is_among(&pins[..table.inputs], agreeing.as_slice()) {
+                    due = lower;
+                }
+            }
+            self.check(table.rows, table.rows, "a class", usize::from(class) == due)?;
         }
         Ok(())
     }
 
-    fn strikes<R: Kind, P: Signature<R>>(
-        &mut self,
-        name: &str,
-        pile: &P,
-        pair: &Pair<R>,
-    ) -> Result<(), AllocError>
-        ensures counts { counts self.new.tally ≡ counts self.old.tally }
-        ensures differences { self.old.tally.differences ≤ self.new.tally.differences }
-        ensures wirings { self.new.wirings ≡ self.old.wirings }
-    {
-        let strikes = strikes_by(pile, pair.card, pair.part);
-        if pair.uses_struck(&strikes) {
-            self.differ(
-                pair,
-                "a pair",
-                name,
-                "it is struck",
-                "that an agreeing wiring uses it",
-            )?;
+    /// Compares each card with each of at most 60 parts, and what a shelf of these parts answers. Each part is entered
+    /// under the lowest number as well, and dropped.
+    pub fn shelf<R: Kind>(&mut self, parts: &[Vec<R>], cards: &[Vec<R>]) -> Result<()> {
+        let mut memory = vec![in self.rt.alloc(); R::row(0); 65536]?;
+        let mut shelf = granted(Shelf::open(64))?;
+        let mut tables = Vec::new(self.rt.alloc());
+        for (k, rows) in parts.iter().enumerate() {
+            let (rows, memory, number) = (rows.as_slice(), memory.as_mut_slice(), number_of(k));
+            let part = granted(table_of(rows))?;
+            self.classes(&part)?;
+            granted(shelf.enter(memory, 1, part.inputs, rows))?;
+            granted(shelf.enter(memory, number, part.inputs, rows))?;
+            granted(shelf.drop_part(memory, 1))?;
+            tables.push(part)?;
         }
-        let struck = struck_by(pile, pair.card, pair.part);
-        let marked = struck_pairs(&strikes, pair.card.inputs);
-        if struck != marked {
-            self.differ(pair, "the struck pairs", name, struck, marked)?;
-        }
-        Ok(())
-    }
-
-    fn spread<R: Kind, P: Signature<R>>(
-        &mut self,
-        name: &str,
-        pile: &P,
-        pair: &Pair<R>,
-    ) -> Result<u32, AllocError>
-        ensures counts { counts self.new.tally ≡ counts self.old.tally }
-        ensures differences { self.old.tally.differences ≤ self.new.tally.differences }
-        ensures wirings { self.new.wirings ≡ self.old.wirings }
-    {
-        let spread = spread_by(pile, pair.card, pair.part);
-        if (spread as usize) < pair.agreeing {
-            self.differ(pair, "the spread", name, spread, pair.agreeing)?;
-        }
-        Ok(spread)
-    }
-
-    // Compares what the library answers with the help of a pile.
-    fn pile<R: Kind, P: Signature<R>>(
-        &mut self,
-        name: &str,
-        pile: &P,
-        pair: &Pair<R>,
-    ) -> Result<u32, AllocError>
-        ensures counts { counts self.new.tally ≡ counts self.old.tally }
-        ensures differences { self.old.tally.differences ≤ self.new.tally.differences }
-        ensures wirings { self.new.wirings ≡ self.old.wirings }
-    {
-        self.wiring(name, pile, pair)?;
-        self.strikes(name, pile, pair)?;
-        self.spread(name, pile, pair)
-    }
-
-    // Compares the row check at a wiring.
-    fn row_check<R: Kind>(&mut self, pair: &Pair<R>, pins: &Pins) -> Result<(), Failure>
-        ensures counts { counts self.new.tally ≡ counts self.old.tally }
-        ensures differences { self.old.tally.differences ≤ self.new.tally.differences }
-        ensures wirings { self.new.wirings ≡ self.old.wirings }
-    {
-        let wiring = Wiring::new(pair.card.inputs, pins.as_slice())?;
-        let checked = agrees(pair.card, pair.part, &wiring);
-        let due = pair.agrees(pins);
-        if checked != due {
-            let name = format!(in self.heap; "{}", PinList(Some(pins.as_slice())))?;
-            self.differ(pair, "the row check", name.as_str(), checked, due)?;
-        }
-        Ok(())
-    }
-
-    fn row_checks<R: Kind>(&mut self, pair: &Pair<R>) -> Result<(), Failure>
-        ensures counts { counts self.new.tally ≡ counts self.old.tally }
-        ensures differences { self.old.tally.differences ≤ self.new.tally.differences }
-        ensures wirings { self.new.wirings ≡ self.old.wirings }
-    {
-        for pins in pair.wirings {
-            self.row_check(pair, pins)?;
-        }
-        Ok(())
-    }
-
-    // Compares everything that is asked of a card and a part.
-    pub fn pair<R: Kind>(&mut self, card: &Table<R>, part: &Table<R>) -> Result<(), Failure>
-        ensures pairs { OnOk result (self.new.tally.pairs ≡ at_most (self.old.tally.pairs + 1)) }
-        ensures found { OnOk result (card.now.inputs ≤ 6 → PairCounted (Agrees (codes_of R.doing card.now.rows.now) (codes_of R.doing part.now.rows.now)) card.now.inputs self.old.tally self.new.tally) }
-        ensures others { (self.new.tally.fits ≡ self.old.tally.fits) × (self.new.tally.refused ≡ self.old.tally.refused) × (self.new.tally.classes ≡ self.old.tally.classes) }
-        ensures differences { self.old.tally.differences ≤ self.new.tally.differences }
-        ensures wirings { self.new.wirings ≡ self.old.wirings }
-    {
-        let pair = Pair::of(self.wirings, card, part);
-        self.row_checks(&pair)?;
-        self.pile("no signature", &Blank, &pair)?;
-        self.pile("cofactor", &Cofactor, &pair)?;
-        self.pile("breakup", &Breakup, &pair)?;
-        self.pile("neighbour", &Neighbour, &pair)?;
-        self.pile("refined cofactor", &Refined(Cofactor), &pair)?;
-        let spread = self.pile("the standard pile", &STANDARD_PILE, &pair)?;
-        self.tally.pair(pair.wirings.len(), pair.agreeing, spread);
-        Ok(())
-    }
-
-    // Compares the classes of a table's inputs.
-    pub fn classes<R: Kind>(&mut self, table: &Table<R>) -> Result<(), Failure>
-        ensures counts { counts self.new.tally ≡ record (counts self.old.tally) { classes = at_most (self.old.tally.classes + 1) } }
-        ensures differences { self.old.tally.differences ≤ self.new.tally.differences }
-        ensures wirings { self.new.wirings ≡ self.old.wirings }
-    {
-        self.tally.classes();
-        let due = due_classes(table);
-        let mut written = [0; 10];
-        write_classes(table.inputs, table.rows, &mut written)?;
-        if written != due || classes_of(table) != due {
-            let rows = RowList(table.rows);
-            let (written, due) = (written.as_slice(), due.as_slice());
-            let text = format!(in self.heap;
-                "the classes of table {rows}: the library says {written:?}, exchanging {due:?}"
-            )?;
-            self.tell(text)?;
+        let (memory, pile) = (memory.as_slice(), &STANDARD_PILE);
+        for rows in cards {
+            let (card, rows) = (&granted(table_of(rows.as_slice()))?, rows.as_slice());
+            let (n, mut lowest, mut first) = (card.inputs, None, None);
+            for (k, part) in tables.iter().enumerate() {
+                let (wirings, number) = (self.agreeing(n, rows, part.rows)?, number_of(k));
+                let agreeing = wirings.as_slice();
+                self.pair(Pair(card, part, agreeing))?;
+                let spread = granted(shelf.spread(memory, number, n, rows, pile))? as usize;
+                let holds = spread >= agreeing.len();
+                self.check(rows, part.rows, "the shelf's spread", holds)?;
+                if !agreeing.is_empty() && lowest.is_none_or(|lowest| number < lowest) {
+                    (lowest, first) = (Some(number), agreeing.first().copied());
+                }
+            }
+            let fit = shelf.fit(memory, n, rows, pile);
+            let holds = match (&fit, first) {
+                (Ok(fit), Some(pins)) => Some(fit.number()) == lowest
+                    && fit.wiring().pins() == pins,
+                (Err(refusal), None) => *refusal == Refusal::NoPartAgrees,
+                _ => false,
+            };
+            add(&mut self.totals.fits, 1);
+            add(&mut self.totals.of_these_refused, usize::from(fit.is_err()));
+            for part in tables.iter() {
+                self.check(rows, part.rows, "a fit to such parts", holds)?;
+            }
         }
         Ok(())
     }

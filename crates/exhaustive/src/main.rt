@@ -1,186 +1,95 @@
+//! Compares what the library answers with a matcher that tries every wiring: for all pairs of small tables, and for larger
+//! tables that are drawn.
 #![tactic(auto)]
 
-ghost use Rattle.std.specs.Prelude.{◌≡◌, ◌≤◌};
+ghost use Rattle.std.specs.Prelude.{◌≤◌};
 
-mod action;
 mod comparison;
 mod drawing;
-mod failure;
-mod family;
 mod kind;
-mod level;
-mod printing;
-mod request;
-mod small_table;
-mod stock;
-mod tally;
 
-use comparison::Comparison;
+use comparison::{Comparison, Totals};
 use drawing::Style;
 use draws::Random;
 use every_wiring::Wirings;
-use failure::Failure;
-use family::{compare_drawn, compare_pairs, compare_shelves, every_table};
-use kind::Kind;
-use level::Level;
-use printing::{HEAD, Row};
+use kind::{Kind, Level};
 use programs::ended;
-use request::{Request, USAGE};
 use rows::{Drive, Indistinct, OnOff};
-use small_table::SmallTable;
-use std::env;
+use std::io::{ErrorKind, Result};
 use std::process::ExitCode;
-use tally::Tally;
+use std::{env, slice};
 
-// What is compared, and what came of it so far.
-#[derive(Drop)]
-struct Comparisons<'a> {
-    rt: &'a HostRuntime,
-    wirings: &'a Wirings,
-    random: Random,
-    times: u32,
-    total: Tally,
+// All tables of up to three inputs that are made of the first few rows of their kind, those of three inputs of two, and
+// shelves of these tables. Then cards of four to six inputs that are drawn, each with eight parts.
+fn compare<R: Kind>(comparison: &mut Comparison, few: usize, rounds: u32) -> Result<()> {
+    let rt = comparison.rt;
+    let mut tables: Vec<Vec<R>> = Vec::new(rt.alloc());
+    for (size, few) in [(1, few), (2, few), (4, few), (8, 2)] {
+        for number in 0..few.saturating_pow(size) {
+            let digit = |row: u32| number / few.saturating_pow(row).max(1) % few.max(1);
+            let rows = (0..size).map(|row| R::row(digit(row)));
+            tables.push(rows.collect(rt.alloc())?)?;
+        }
+    }
+    for k in 0..tables.len() {
+        let other = comparison.random.below(tables.len());
+        tables.swap(k, other);
+    }
+    for parts in tables.chunks(60) {
+        comparison.shelf(parts, tables.as_slice())?;
+    }
+    for _ in 0..rounds {
+        for n in 4..7 {
+            compare_drawn::<R>(comparison, Style::Plain, n)?;
+            compare_drawn::<R>(comparison, Style::Symmetric, n)?;
+            compare_drawn::<R>(comparison, Style::Ring, n)?;
+        }
+    }
+    Ok(())
 }
 
-impl Comparisons<'_> {
-    // Prints what came of a family.
-    fn close(&mut self, title: &str, comparison: &Comparison) -> Result<(), Failure> {
-        let tally = &comparison.tally;
-        println!(self.rt; "{}", Row { title, tally })?;
-        for text in comparison.told.iter() {
-            println!(self.rt; "{text}")?;
-        }
-        self.total.add(tally);
-        Ok(())
+fn compare_drawn<R: Kind>(comparison: &mut Comparison, style: Style, n: usize) -> Result<()>
+    requires some { 1 ≤ n }
+    requires few { n ≤ 6 }
+{
+    let (rt, random) = (comparison.rt, &mut comparison.random);
+    let mut parts = Vec::new(rt.alloc());
+    let card: Vec<R> = style.card(rt, n, random)?;
+    for _ in 0..8 {
+        let mut part = card.clone()?;
+        style.wire(n, card.as_slice(), part.as_mut_slice(), random);
+        parts.push(part)?;
     }
-
-    // All pairs of the small tables of so many inputs, which are then put with the others.
-    fn pairs<R: Kind>(
-        &mut self,
-        kind: &str,
-        inputs: usize,
-        all: &mut Vec<SmallTable<R>>,
-    ) -> Result<(), Failure> {
-        let heap = self.rt.alloc();
-        let mut comparison = Comparison::new(heap, self.wirings);
-        let tables = every_table::<R>(heap, inputs)?;
-        compare_pairs(&mut comparison, tables.as_slice())?;
-        all.extend_from_slice(tables.as_slice())?;
-        let title = format!(in heap; "{kind}, {inputs} inputs, all pairs")?;
-        self.close(title.as_str(), &comparison)
-    }
-
-    // Shelves of small tables.
-    fn shelves<R: Kind>(&mut self, kind: &str, all: &mut [SmallTable<R>]) -> Result<(), Failure> {
-        let heap = self.rt.alloc();
-        let mut comparison = Comparison::new(heap, self.wirings);
-        compare_shelves(&mut comparison, all, &mut self.random)?;
-        let title = format!(in heap; "{kind}, shelves of all these")?;
-        self.close(title.as_str(), &comparison)
-    }
-
-    // All pairs of the small tables with at most two inputs, or three, a family for each number, and then shelves of all.
-    // They are put into the list that is brought.
-    fn every<R: Kind>(
-        &mut self,
-        kind: &str,
-        three: bool,
-        mut all: Vec<SmallTable<R>>,
-    ) -> Result<(), Failure> {
-        self.pairs::<R>(kind, 0, &mut all)?;
-        self.pairs::<R>(kind, 1, &mut all)?;
-        self.pairs::<R>(kind, 2, &mut all)?;
-        if three {
-            self.pairs::<R>(kind, 3, &mut all)?;
-        }
-        self.shelves(kind, all.as_mut_slice())
-    }
-
-    // Cards of a style that are drawn, and parts for them, which are left in the list that is brought.
-    fn drawn<R: Kind>(
-        &mut self,
-        kind: &str,
-        style: Style,
-        inputs: usize,
-        cards: u32,
-        parts: &mut Vec<SmallTable<R>>,
-    ) -> Result<(), Failure>
-        requires { inputs ≤ 6 }
-    {
-        let heap = self.rt.alloc();
-        let mut comparison = Comparison::new(heap, self.wirings);
-        let cards = cards.saturating_mul(self.times);
-        compare_drawn(
-            &mut comparison,
-            style,
-            inputs,
-            cards,
-            parts,
-            &mut self.random,
-        )?;
-        let title = format!(in heap; "{kind}, {inputs} inputs, {style}")?;
-        self.close(title.as_str(), &comparison)
-    }
-
-    // Each style of cards at this kind of row.
-    fn styles<R: Kind>(
-        &mut self,
-        kind: &str,
-        inputs: usize,
-        cards: u32,
-        parts: &mut Vec<SmallTable<R>>,
-    ) -> Result<(), Failure>
-        requires { inputs ≤ 6 }
-    {
-        self.drawn(kind, Style::Plain, inputs, cards, parts)?;
-        self.drawn(kind, Style::Grouped(inputs), inputs, cards, parts)?;
-        self.drawn(kind, Style::Grouped(inputs / 2), inputs, cards, parts)?;
-        self.drawn(kind, Style::Turned, inputs, cards, parts)
-    }
-
-    fn compare(&mut self) -> Result<(), Failure> {
-        let heap = self.rt.alloc();
-        println!(self.rt; "{HEAD}")?;
-        self.every::<OnOff>("on/off", true, Vec::new(heap))?;
-        self.every::<Drive>("drives", false, Vec::new(heap))?;
-        self.every::<Level>("levels", false, Vec::new(heap))?;
-        self.every::<Indistinct>("indistinct", false, Vec::new(heap))?;
-        for inputs in [4, 5, 6] {
-            self.styles::<OnOff>("on/off", inputs, 100, &mut Vec::new(heap))?;
-            self.styles::<Drive>("drives", inputs, 50, &mut Vec::new(heap))?;
-            self.styles::<Level>("levels", inputs, 25, &mut Vec::new(heap))?;
-        }
-        let title = "all";
-        let tally = &self.total;
-        println!(self.rt; "{}", Row { title, tally })?;
-        if self.total.differences == 0 {
-            Ok(())
-        } else {
-            Err(Failure::Differences)
-        }
-    }
+    comparison.shelf(parts.as_slice(), slice::from_ref(&card))
 }
 
-fn run(rt: &HostRuntime) -> Result<(), Failure> {
+fn run(rt: &HostRuntime) -> Result<()> {
     let args: Vec<String> = env::args(rt)?.skip(1).collect(rt.alloc())?;
-    match Request::of(args.as_slice()) {
-        Some(Request::Compare(times)) => {
-            let wirings = Wirings::new(rt.alloc())?;
-            let mut comparisons = Comparisons {
-                rt,
-                wirings: &wirings,
-                random: Random(1),
-                times,
-                total: Tally::EMPTY,
-            };
-            comparisons.compare()
-        }
-        Some(Request::Help) => {
-            println!(rt; "{USAGE}")?;
-            Ok(())
-        }
-        None => Err(Failure::Usage),
+    let rounds = match args.first() {
+        Some(word) => word.parse::<u32>().ok().ok_or(ErrorKind::InvalidInput)?,
+        None => 100,
+    };
+    let mut wirings = Vec::new(rt.alloc());
+    for inputs in 0..7 {
+        wirings.push(Wirings::new(rt.alloc(), inputs)?)?;
     }
+    let (wirings, random, totals) = (wirings.as_slice(), Random(1), Totals::default());
+    let mut comparison = Comparison {
+        rt,
+        wirings,
+        random,
+        totals,
+    };
+    compare::<OnOff>(&mut comparison, 2, rounds)?;
+    compare::<Drive>(&mut comparison, 4, rounds)?;
+    compare::<Level>(&mut comparison, 4, rounds)?;
+    compare::<Indistinct>(&mut comparison, 2, rounds)?;
+    let totals = comparison.totals;
+    println!(rt; "{totals:#?}")?;
+    if totals.differences > 0 {
+        return Err(ErrorKind::InvalidData.into());
+    }
+    Ok(())
 }
 
 fn main(rt: HostRuntime) -> ExitCode {

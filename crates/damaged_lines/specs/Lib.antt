@@ -1,9 +1,0 @@
-pub mod Counts
-pub mod Damages
-pub mod Dues
-pub mod Fixtures
-pub mod Groups
-pub mod Reading
-pub mod Requests
-pub mod Stocks
-pub mod Texts
