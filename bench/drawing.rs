@@ -1,4 +1,4 @@
-// Cards and parts, the same as those that crates/bench_calls draws.
+// Cards and parts that are drawn, the same in each run.
 use crate::search::Pins;
 
 pub struct Random(pub u32);
@@ -13,7 +13,7 @@ impl Random {
         self.below(2) as u8
     }
 
-    fn pins(&mut self, inputs: usize) -> Pins {
+    pub fn pins(&mut self, inputs: usize) -> Pins {
         let mut pins = std::array::from_fn(|i| i);
         for i in 0..inputs {
             pins.swap(i, i + self.below(inputs - i));
@@ -43,7 +43,7 @@ impl Relation {
     }
 }
 
-fn carried(rows: &[u8], pins: Pins, inputs: usize) -> Vec<u8> {
+pub fn carried(rows: &[u8], pins: Pins, inputs: usize) -> Vec<u8> {
     let mut part = rows.to_vec();
     for (r, row) in rows.iter().enumerate() {
         part[(0..inputs).map(|i| (r >> i & 1) << pins[i]).sum::<usize>()] = *row;
@@ -62,6 +62,11 @@ fn shuffled(random: &mut Random, rows: &[u8]) -> Vec<u8> {
 // The first row past this one with as many inputs on and another value.
 fn unlike(rows: &[u8], row: usize) -> Option<usize> {
     (row..rows.len()).find(|r| r.count_ones() == row.count_ones() && rows[*r] != rows[row])
+}
+
+// The next turn of a row: each input has the value that the input before it has in this row.
+pub fn turned(row: usize, inputs: usize) -> usize {
+    (row << 1 | row >> (inputs - 1)) % (1 << inputs)
 }
 
 // A card, and over how many turns its near misses exchange two rows.
@@ -93,15 +98,10 @@ impl Model {
             let mut turn = r;
             for _ in 0..turns {
                 model.card[turn] = row;
-                turn = model.turned(turn);
+                turn = turned(turn, inputs);
             }
         }
         model
-    }
-
-    // The next turn of a row: each input has the value that the input before it has in this row.
-    fn turned(&self, row: usize) -> usize {
-        (row << 1 | row >> (self.inputs - 1)) % (1 << self.inputs)
     }
 
     // The card with two rows exchanged, over all turns.
@@ -112,8 +112,8 @@ impl Model {
         if let Some((mut a, mut b)) = rows {
             for _ in 0..self.turns {
                 other.swap(a, b);
-                a = self.turned(a);
-                b = self.turned(b);
+                a = turned(a, self.inputs);
+                b = turned(b, self.inputs);
             }
         }
         other

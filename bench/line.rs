@@ -1,10 +1,9 @@
 // The lines that a shelf is talked to in, and their answers.
 use crate::shelf::{Proposal, Refusal, Shelf};
-use std::io::{self, Write};
 
 const LONGEST_LINE: usize = 1100;
 
-enum Form<'a> {
+pub enum Form<'a> {
     Part {
         number: u32,
         inputs: usize,
@@ -32,16 +31,17 @@ fn number(text: &[u8]) -> Option<(u32, &[u8])> {
     Some((value, rest))
 }
 
-// What stands between ` (pins 3) (rows ` and the end of the line.
+// What stands between ` (pins 3) (rows ` and the end of the line. All digits are looked at, which is faster than to stop
+// at the first that is none.
 fn table(text: &[u8]) -> Option<(usize, &[u8])> {
     let (inputs, rest) = number(text.strip_prefix(b" (pins ")?)?;
     let rows = rest.strip_prefix(b") (rows ")?.strip_suffix(b"))\n")?;
-    let are_rows = !rows.is_empty() && rows.iter().all(|digit| matches!(digit, b'0' | b'1'));
-    are_rows.then_some((inputs as usize, rows))
+    let bits = rows.iter().fold(0, |bits, digit| bits | digit ^ b'0');
+    (!rows.is_empty() && bits <= 1).then_some((inputs as usize, rows))
 }
 
 impl Form<'_> {
-    fn read(line: &[u8]) -> Option<Form<'_>> {
+    pub fn read(line: &[u8]) -> Option<Form<'_>> {
         if line.len() > LONGEST_LINE {
             return None;
         }
@@ -63,8 +63,13 @@ impl Form<'_> {
     }
 }
 
-fn rows_of(digits: &[u8]) -> Vec<u8> {
-    digits.iter().map(|digit| digit - b'0').collect()
+// The rows that digits spell, in room for them.
+fn rows_of<'a>(digits: &[u8], room: &'a mut [u8; LONGEST_LINE]) -> &'a [u8] {
+    let rows = &mut room[..digits.len()];
+    for (row, digit) in rows.iter_mut().zip(digits) {
+        *row = digit - b'0';
+    }
+    rows
 }
 
 enum Reply {
@@ -72,31 +77,75 @@ enum Reply {
     Fit(Proposal),
 }
 
-fn obey(shelf: &mut Shelf, line: &[u8]) -> Result<Reply, Refusal> {
-    match Form::read(line).ok_or(Refusal::NotAForm)? {
-        Form::Part {
-            number,
-            inputs,
-            rows,
-        } => shelf
-            .enter(number, inputs, rows_of(rows))
-            .map(|()| Reply::Done),
-        Form::Drop { number } => shelf.drop_part(number).map(|()| Reply::Done),
-        Form::Card { inputs, rows } => shelf.fit(inputs, &rows_of(rows)).map(Reply::Fit),
-    }
+// A conversation with a shelf.
+pub struct Talk {
+    pub shelf: Shelf,
+    rows: [u8; LONGEST_LINE],
+    answer: Vec<u8>,
 }
 
-// Does what a line asks of the shelf, and writes the answer.
-pub fn answer_line(shelf: &mut Shelf, line: &[u8], out: &mut impl Write) -> io::Result<()> {
-    match obey(shelf, line) {
-        Ok(Reply::Done) => out.write_all(b"(ok)\n"),
-        Ok(Reply::Fit(proposal)) => {
-            write!(out, "(fit {} (to", proposal.number)?;
-            for pin in proposal.pins() {
-                write!(out, " {pin}")?;
-            }
-            writeln!(out, ") (struck {}))", proposal.struck)
+impl Talk {
+    pub fn with(shelf: Shelf) -> Talk {
+        Talk {
+            shelf,
+            rows: [0; LONGEST_LINE],
+            answer: Vec::new(),
         }
-        Err(refusal) => writeln!(out, "(no {})", refusal as u8),
+    }
+
+    fn obey(&mut self, line: &[u8]) -> Result<Reply, Refusal> {
+        match Form::read(line).ok_or(Refusal::NotAForm)? {
+            Form::Part {
+                number,
+                inputs,
+                rows,
+            } => {
+                let rows = rows_of(rows, &mut self.rows);
+                self.shelf.enter(number, inputs, rows).map(|()| Reply::Done)
+            }
+            Form::Drop { number } => self.shelf.drop_part(number).map(|()| Reply::Done),
+            Form::Card { inputs, rows } => {
+                let rows = rows_of(rows, &mut self.rows);
+                self.shelf.fit(inputs, rows).map(Reply::Fit)
+            }
+        }
+    }
+
+    fn write(&mut self, text: &[u8]) {
+        self.answer.extend_from_slice(text);
+    }
+
+    fn write_number(&mut self, number: usize) {
+        if number > 9 {
+            self.write_number(number / 10);
+        }
+        self.answer.push(b'0' + (number % 10) as u8);
+    }
+
+    // Does what a line asks of the shelf, and says the answer.
+    pub fn answer_line(&mut self, line: &[u8]) -> &[u8] {
+        let reply = self.obey(line);
+        self.answer.clear();
+        match reply {
+            Ok(Reply::Done) => self.write(b"(ok)\n"),
+            Ok(Reply::Fit(proposal)) => {
+                self.write(b"(fit ");
+                self.write_number(proposal.number as usize);
+                self.write(b" (to");
+                for pin in proposal.pins() {
+                    self.write(b" ");
+                    self.write_number(*pin);
+                }
+                self.write(b") (struck ");
+                self.write_number(proposal.struck);
+                self.write(b"))\n");
+            }
+            Err(refusal) => {
+                self.write(b"(no ");
+                self.write_number(refusal as usize);
+                self.write(b")\n");
+            }
+        }
+        &self.answer
     }
 }

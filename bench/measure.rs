@@ -1,174 +1,131 @@
-// The same work as crates/bench_calls, so often as it is asked for, and a sum of what came out.
-use crate::conversation::{card_line, part_line};
-use crate::drawing::{Model, Random, Relation};
-use crate::line::answer_line;
-use crate::lists::{Lists, Strikes};
-use crate::search::first_wiring;
-use crate::shelf::Shelf;
+// One kind of call over and over with the tables of a file, as crates/bench_calls does it, and a sum of what came out.
+use crate::line::Form;
+use crate::lists::Lists;
+use crate::search::{Matcher, Pins};
+use crate::shelf::{Refusal, Shelf, check_rows};
+use crate::sums::Sums;
 use crate::table::Table;
 use std::error::Error;
-use std::io;
+use std::io::{self, Read};
 
-pub struct Job {
-    pub inputs: usize,
-    pub parts: usize,
-    pub times: usize,
+struct TableRows {
+    inputs: usize,
+    rows: Vec<u8>,
 }
 
-fn summed(sum: u64, said: impl IntoIterator<Item = u64>) -> u64 {
-    said.into_iter()
-        .fold(sum, |sum, said| sum.wrapping_mul(31).wrapping_add(said))
-}
+impl TableRows {
+    fn of(inputs: usize, digits: &[u8]) -> Result<TableRows, Refusal> {
+        check_rows(inputs, digits)?;
+        let rows = digits.iter().map(|digit| digit - b'0').collect();
+        Ok(TableRows { inputs, rows })
+    }
 
-fn sum_with_answer(
-    shelf: &mut Shelf,
-    line: &str,
-    answer: &mut Vec<u8>,
-    sum: u64,
-) -> io::Result<u64> {
-    answer.clear();
-    answer_line(shelf, line.as_bytes(), answer)?;
-    Ok(summed(sum, answer.iter().map(|&byte| byte.into())))
-}
-
-impl Job {
-    fn table<'a>(&self, rows: &'a [u8]) -> Table<'a> {
+    fn table(&self) -> Table<'_> {
         Table {
             inputs: self.inputs,
-            rows,
+            rows: &self.rows,
         }
     }
+}
 
-    // Every second model is a ring.
-    fn model(&self, random: &mut Random, k: usize) -> Model {
-        match k % 2 {
-            0 => Model::plain(random, self.inputs),
-            _ => Model::ring(random, self.inputs),
+fn summed(sum: u64, said: u64) -> u64 {
+    sum.wrapping_mul(31).wrapping_add(said)
+}
+
+fn summed_pins(sum: u64, pins: &[usize]) -> u64 {
+    pins.iter().fold(sum, |sum, &pin| summed(sum, pin as u64))
+}
+
+// The parts, with their numbers, and the cards of a file of lines.
+#[derive(Default)]
+pub struct Stock {
+    numbers: Vec<u32>,
+    parts: Vec<TableRows>,
+    cards: Vec<TableRows>,
+}
+
+impl Stock {
+    // The tables of standard input. Drops are passed over.
+    pub fn read() -> Result<Stock, Box<dyn Error>> {
+        let mut text = Vec::new();
+        io::stdin().read_to_end(&mut text)?;
+        let mut stock = Stock::default();
+        for line in text.split_inclusive(|&byte| byte == b'\n') {
+            stock.add(line).map_err(|_| "a line has no table")?;
         }
+        Ok(stock)
     }
 
-    fn lists(&self) -> u64 {
-        let mut random = Random(1);
-        let tables: Vec<Model> = (0..self.parts)
-            .map(|k| self.model(&mut random, k))
-            .collect();
+    fn add(&mut self, line: &[u8]) -> Result<(), Refusal> {
+        match Form::read(line).ok_or(Refusal::NotAForm)? {
+            Form::Part {
+                number,
+                inputs,
+                rows,
+            } => {
+                self.parts.push(TableRows::of(inputs, rows)?);
+                self.numbers.push(number);
+            }
+            Form::Card { inputs, rows } => self.cards.push(TableRows::of(inputs, rows)?),
+            Form::Drop { .. } => {}
+        }
+        Ok(())
+    }
+
+    fn sum_of_lists(&self, times: usize) -> u64 {
+        let mut sums = Sums::new();
         let mut sum = 0;
-        for (t, model) in tables.iter().cycle().take(self.times).enumerate() {
-            let lists = Lists::of(self.table(&model.card));
-            let answer = lists.all()[t % self.inputs][t % 12];
-            sum = summed(sum, [answer.into()]);
+        for (t, card) in self.cards.iter().cycle().take(times).enumerate() {
+            sums.fill(card.table());
+            let lists = Lists::of(card.table(), &sums);
+            let answer = lists.lists[t % card.inputs.max(1)][t % 12];
+            sum = summed(sum, answer.into());
         }
         sum
     }
 
-    fn search(&self, relation: Relation, signatures: bool) -> u64 {
-        let mut random = Random(1);
-        let mut pairs = Vec::new();
-        for k in 0..self.parts {
-            let model = self.model(&mut random, k);
-            let part = model.part(&mut random, relation);
-            pairs.push((model.card, part));
-        }
+    fn sum_of_wirings(
+        &self,
+        times: usize,
+        wiring: fn(&mut Matcher, Table, Table) -> Option<Pins>,
+    ) -> u64 {
+        let mut matcher = Matcher::new();
+        let cards = self.cards.iter().cycle();
         let mut sum = 0;
-        for (card, part) in pairs.iter().cycle().take(self.times) {
-            let card = self.table(card);
-            let part = self.table(part);
-            let strikes = match signatures {
-                true => Lists::of(card).strikes(&Lists::of(part)),
-                false => Strikes::default(),
-            };
-            sum = match first_wiring(card, part, &strikes) {
-                Some(pins) => summed(sum, pins[..self.inputs].iter().map(|&pin| pin as u64)),
-                None => summed(sum, [10]),
+        for (card, part) in cards.zip(self.parts.iter().cycle()).take(times) {
+            sum = match wiring(&mut matcher, card.table(), part.table()) {
+                Some(pins) => summed_pins(sum, &pins[..card.inputs]),
+                None => summed(sum, 10),
             };
         }
         sum
     }
 
-    // A shelf that is full of parts of the two models in turn, with falling numbers, and four cards for it.
-    fn stocked(&self) -> (Shelf, [Vec<u8>; 4]) {
-        let mut random = Random(1);
-        let plain = Model::plain(&mut random, self.inputs);
-        let ring = Model::ring(&mut random, self.inputs);
-        let near_plain = plain.near_miss(&mut random);
-        let near_ring = ring.near_miss(&mut random);
-        let mut shelf = Shelf::open(self.parts);
-        for number in (1..=self.parts).rev() {
-            let model = if number % 2 == 1 { &plain } else { &ring };
-            let rows = model.part(&mut random, Relation::of(number, self.parts));
-            let _ = shelf.enter(number as u32, self.inputs, rows);
+    fn sum_of_fits(&self, times: usize) -> u64 {
+        let mut shelf = Shelf::open(self.parts.len());
+        for (number, part) in self.numbers.iter().zip(&self.parts) {
+            let _ = shelf.enter(*number, part.inputs, &part.rows);
         }
-        (shelf, [plain.card, near_plain, ring.card, near_ring])
-    }
-
-    fn fit(&self) -> u64 {
-        let (shelf, cards) = self.stocked();
         let mut sum = 0;
-        for card in cards.iter().cycle().take(self.times) {
-            sum = match shelf.fit(self.inputs, card) {
-                Ok(proposal) => {
-                    let pins = proposal.pins().iter().map(|&pin| pin as u64);
-                    let said = [proposal.number.into(), proposal.struck as u64];
-                    summed(sum, pins.chain(said))
+        for card in self.cards.iter().cycle().take(times) {
+            sum = match shelf.fit(card.inputs, &card.rows) {
+                Ok(fit) => {
+                    let sum = summed_pins(sum, fit.pins());
+                    summed(summed(sum, fit.number.into()), fit.struck as u64)
                 }
-                Err(refusal) => summed(sum, [refusal as u64]),
+                Err(refusal) => summed(sum, refusal as u64),
             };
         }
         sum
     }
 
-    fn card(&self) -> io::Result<u64> {
-        let (mut shelf, cards) = self.stocked();
-        let lines = cards.map(|card| card_line(self.inputs, &card));
-        let mut answer = Vec::new();
-        let mut sum = 0;
-        for line in lines.iter().cycle().take(self.times) {
-            sum = sum_with_answer(&mut shelf, line, &mut answer, sum)?;
-        }
-        Ok(sum)
-    }
-
-    // The highest number is dropped again before each line.
-    fn part(&self) -> io::Result<u64> {
-        let (mut shelf, cards) = self.stocked();
-        let lines = cards.map(|card| part_line(self.parts, self.inputs, &card));
-        let mut answer = Vec::new();
-        let mut sum = 0;
-        for line in lines.iter().cycle().take(self.times) {
-            let _ = shelf.drop_part(self.parts as u32);
-            sum = sum_with_answer(&mut shelf, line, &mut answer, sum)?;
-        }
-        Ok(sum)
-    }
-
-    // The highest number is entered again before each line.
-    fn drop(&self) -> io::Result<u64> {
-        let (mut shelf, cards) = self.stocked();
-        let line = format!("(drop {})\n", self.parts);
-        let _ = shelf.drop_part(self.parts as u32);
-        let mut answer = Vec::new();
-        let mut sum = 0;
-        for card in cards.iter().cycle().take(self.times) {
-            let _ = shelf.enter(self.parts as u32, self.inputs, card.clone());
-            sum = sum_with_answer(&mut shelf, &line, &mut answer, sum)?;
-        }
-        Ok(sum)
-    }
-
-    pub fn sum(&self, what: &str) -> Result<u64, Box<dyn Error>> {
+    pub fn sum(&self, what: &str, times: usize) -> Result<u64, Box<dyn Error>> {
         Ok(match what {
-            "lists" => self.lists(),
-            "agreeing" => self.search(Relation::Agreeing, true),
-            "near" => self.search(Relation::NearMiss, true),
-            "unrelated" => self.search(Relation::Unrelated, true),
-            "bare-agreeing" => self.search(Relation::Agreeing, false),
-            "bare-near" => self.search(Relation::NearMiss, false),
-            "bare-unrelated" => self.search(Relation::Unrelated, false),
-            "fit" => self.fit(),
-            "part" => self.part()?,
-            "drop" => self.drop()?,
-            "card" => self.card()?,
-            _ => return Err("nothing of this name is measured".into()),
+            "lists" => self.sum_of_lists(times),
+            "search" => self.sum_of_wirings(times, Matcher::wiring_by_lists),
+            "bare" => self.sum_of_wirings(times, Matcher::first_wiring),
+            "fit" => self.sum_of_fits(times),
+            _ => return Err("no call has this name".into()),
         })
     }
 }

@@ -1,7 +1,6 @@
 // A shelf of parts, and which of them can stand in for a card.
-use crate::lists::Lists;
-use crate::search::{Pins, search};
-use crate::table::{MOST_INPUTS, Table};
+use crate::search::{Matcher, Pins};
+use crate::table::{MOST_INPUTS, MOST_ROWS, Table};
 
 #[derive(Clone, Copy)]
 pub enum Refusal {
@@ -15,19 +14,11 @@ pub enum Refusal {
     NoPartAgrees = 10,
 }
 
-struct Part {
+// What a slot in use says of its part.
+#[derive(Clone, Copy)]
+struct Label {
     number: u32,
     inputs: usize,
-    rows: Vec<u8>,
-}
-
-impl Part {
-    fn table(&self) -> Table<'_> {
-        Table {
-            inputs: self.inputs,
-            rows: &self.rows,
-        }
-    }
 }
 
 pub struct Proposal {
@@ -50,7 +41,7 @@ fn check_number(number: u32) -> Result<(), Refusal> {
     }
 }
 
-fn check_rows(inputs: usize, rows: &[u8]) -> Result<(), Refusal> {
+pub fn check_rows(inputs: usize, rows: &[u8]) -> Result<(), Refusal> {
     if inputs > MOST_INPUTS {
         return Err(Refusal::TooManyInputs);
     }
@@ -60,45 +51,37 @@ fn check_rows(inputs: usize, rows: &[u8]) -> Result<(), Refusal> {
     Ok(())
 }
 
-fn propose(card: Table, lists: &Lists, part: &Part) -> Option<Proposal> {
-    let part_lists = Lists::of(part.table());
-    let pins = search(card, part.table(), &lists.strikes(&part_lists))?;
-    Some(Proposal {
-        number: part.number,
-        inputs: part.inputs,
-        pins,
-        struck: lists.struck_count(&part_lists),
-    })
-}
-
 pub struct Shelf {
-    slots: Vec<Option<Part>>,
+    slots: Vec<Option<Label>>,
+    // The rows of the parts, 1,024 for each slot.
+    memory: Vec<u8>,
+    matcher: Matcher,
 }
 
 impl Shelf {
     pub fn open(slots: usize) -> Shelf {
         Shelf {
-            slots: (0..slots).map(|_| None).collect(),
+            slots: vec![None; slots],
+            memory: vec![0; slots * MOST_ROWS],
+            matcher: Matcher::new(),
         }
     }
 
     fn slot_of(&self, number: u32) -> Option<usize> {
-        let stands = |slot: &Option<Part>| slot.as_ref().is_some_and(|part| part.number == number);
+        let stands = |slot: &Option<Label>| slot.is_some_and(|label| label.number == number);
         self.slots.iter().position(stands)
     }
 
-    pub fn enter(&mut self, number: u32, inputs: usize, rows: Vec<u8>) -> Result<(), Refusal> {
+    pub fn enter(&mut self, number: u32, inputs: usize, rows: &[u8]) -> Result<(), Refusal> {
         check_number(number)?;
-        check_rows(inputs, &rows)?;
+        check_rows(inputs, rows)?;
         if self.slot_of(number).is_some() {
             return Err(Refusal::NumberStands);
         }
-        let slot = self.slots.iter_mut().find(|slot| slot.is_none());
-        *slot.ok_or(Refusal::ShelfFull)? = Some(Part {
-            number,
-            inputs,
-            rows,
-        });
+        let free = self.slots.iter().position(Option::is_none);
+        let slot = free.ok_or(Refusal::ShelfFull)?;
+        self.memory[slot * MOST_ROWS..][..rows.len()].copy_from_slice(rows);
+        self.slots[slot] = Some(Label { number, inputs });
         Ok(())
     }
 
@@ -110,18 +93,34 @@ impl Shelf {
     }
 
     // The lowest part that agrees with the card, and its first wiring.
-    pub fn fit(&self, inputs: usize, rows: &[u8]) -> Result<Proposal, Refusal> {
+    pub fn fit(&mut self, inputs: usize, rows: &[u8]) -> Result<Proposal, Refusal> {
         check_rows(inputs, rows)?;
         let card = Table { inputs, rows };
         let weight = card.weight();
-        let lists = Lists::of(card);
-        let mut best: Option<Proposal> = None;
-        for part in self.slots.iter().flatten() {
-            let beaten = best.as_ref().is_some_and(|best| best.number <= part.number);
-            if !beaten && part.inputs == inputs && part.table().weight() == weight {
-                best = propose(card, &lists, part).or(best);
+        self.matcher.card.fill(card);
+        let mut best: Option<(u32, Pins)> = None;
+        for (slot, stretch) in self.slots.iter().zip(self.memory.chunks_exact(MOST_ROWS)) {
+            let Some(Label { number, inputs }) = *slot else {
+                continue;
+            };
+            let is_beaten = best.is_some_and(|(lowest, _)| lowest <= number);
+            if is_beaten || inputs != card.inputs {
+                continue;
+            }
+            let rows = &stretch[..rows.len()];
+            let part = Table { inputs, rows };
+            if part.weight() == weight
+                && let Some(pins) = self.matcher.wiring_to(part)
+            {
+                best = Some((number, pins));
             }
         }
-        best.ok_or(Refusal::NoPartAgrees)
+        let (number, pins) = best.ok_or(Refusal::NoPartAgrees)?;
+        Ok(Proposal {
+            number,
+            inputs,
+            pins,
+            struck: self.matcher.struck_count(card),
+        })
     }
 }

@@ -1,6 +1,7 @@
 // A truth table over lent rows of 0 and 1.
 
 pub const MOST_INPUTS: usize = 10;
+pub const MOST_ROWS: usize = 1 << MOST_INPUTS;
 
 #[derive(Clone, Copy)]
 pub struct Table<'a> {
@@ -9,7 +10,9 @@ pub struct Table<'a> {
 }
 
 impl Table<'_> {
+    // How many rows are on. So many at a time are few enough to be summed in a byte.
     pub fn weight(&self) -> u32 {
-        self.rows.iter().map(|&row| u32::from(row)).sum()
+        let weight = |rows: &[u8]| u32::from(rows.iter().sum::<u8>());
+        self.rows.chunks(128).map(weight).sum()
     }
 }

@@ -1,72 +1,73 @@
-ghost use Rattle.std.specs.Prelude.{◌≡◌, ◌≤◌, true, IfErr, IfOk, OnOk};
-ghost use Rattle.bench_calls.specs.Failing.{StopsWork};
-ghost use Rattle.inventory.specs.Slots.{full};
-
-use crate::drawing::{Model, Relation};
-use crate::failure::Failure;
-use draws::Random;
-use inventory::Shelf;
+use anyhow::{Result, bail};
+use refusals::Refusal;
 use rows::OnOff;
+use shelf_forms::Form;
 use std::alloc::Global;
+use std::io::{BufRead, BufReader};
+use tables::Table;
+use typed_rows::copy_rows;
 
-// A shelf that is full, its row memory, and four cards for it.
+/// The rows of a table, and its number of inputs.
 #[derive(Drop)]
-pub struct Stock {
-    pub shelf: Shelf,
-    pub memory: Vec<OnOff>,
-    pub cards: [Vec<OnOff>; 4],
+pub struct TableRows {
+    pub inputs: usize,
+    pub rows: Vec<OnOff>,
 }
 
-// Enters a part into each slot, of the two models in turn, which weigh unlike. The numbers fall, so that no part is
-// passed over for one that was found before.
-fn fill(
-    heap: Global,
-    shelf: &mut Shelf,
-    memory: &mut [OnOff],
-    random: &mut Random,
-    inputs: usize,
-    models: &[Model; 2],
-) -> Result<(), Failure>
-    ensures full { OnOk result (full shelf.new.count shelf.new.slots ≡ true) }
-    ensures stops { IfErr result StopsWork }
-{
-    let parts = shelf.slots() as u32;
-    for number in (1..=parts).rev() {
-        let model = &models[1 - number as usize % 2];
-        let rows = model.part(heap, random, Relation::of(number, parts))?;
-        shelf.enter(memory, number, inputs, rows.as_slice())?;
+impl TableRows {
+    fn of(heap: Global, inputs: usize, digits: &[u8]) -> Result<TableRows> {
+        let mut rows = vec![in heap; OnOff::Off; digits.len()]?;
+        copy_rows(digits, rows.as_mut_slice()).ok_or(Refusal::NotAForm)?;
+        Table::check(inputs, rows.as_slice())?;
+        Ok(TableRows { inputs, rows })
     }
-    Ok(())
+
+    /// The table that the rows are.
+    pub fn table(&self) -> Result<Table<'_, OnOff>, Refusal> {
+        Table::new(self.inputs, self.rows.as_slice())
+    }
+}
+
+/// The parts, with their numbers, and the cards of a file of lines.
+#[derive(Drop)]
+pub struct Stock {
+    pub numbers: Vec<u32>,
+    pub parts: Vec<TableRows>,
+    pub cards: Vec<TableRows>,
 }
 
 impl Stock {
-    pub fn drawn(heap: Global, inputs: usize, parts: usize) -> Result<Stock, Failure>
-        requires some { 1 ≤ inputs }
-        requires few { inputs ≤ 10 }
-        ensures full { IfOk result (λ stock. full stock.shelf.count stock.shelf.slots ≡ true) }
-        ensures stops { IfErr result StopsWork }
-    {
-        let mut random = Random(1);
-        let plain = Model::plain(heap, &mut random, inputs)?;
-        let ring = Model::ring(heap, &mut random, inputs)?;
-        let near_plain = plain.near_miss(heap, &mut random)?;
-        let near_ring = ring.near_miss(heap, &mut random)?;
-        let models = [plain, ring];
-        let mut shelf = Shelf::open(parts)?;
-        let mut memory = vec![in heap; OnOff::Off; shelf.slots() * 1024]?;
-        fill(
-            heap,
-            &mut shelf,
-            memory.as_mut_slice(),
-            &mut random,
-            inputs,
-            &models,
-        )?;
-        let [plain, ring] = models;
-        Ok(Stock {
-            shelf,
-            memory,
-            cards: [plain.card, near_plain, ring.card, near_ring],
-        })
+    fn add(&mut self, heap: Global, line: &[u8]) -> Result<()> {
+        match Form::read(line).ok_or(Refusal::NotAForm)? {
+            Form::Part {
+                number,
+                inputs,
+                rows,
+            } => {
+                self.parts.push(TableRows::of(heap, inputs, rows)?)?;
+                self.numbers.push(number)?;
+            }
+            Form::Card { inputs, rows } => self.cards.push(TableRows::of(heap, inputs, rows)?)?,
+            Form::Drop { .. } => {}
+        }
+        Ok(())
+    }
+
+    /// The tables of standard input.
+    pub fn read(rt: &HostRuntime) -> Result<Stock> {
+        let heap = rt.alloc();
+        let mut stock = Stock {
+            numbers: Vec::new(heap),
+            parts: Vec::new(heap),
+            cards: Vec::new(heap),
+        };
+        for (k, line) in BufReader::new(heap, rt.reader())?.lines(heap).enumerate() {
+            let mut line = line?;
+            line.push('\n')?;
+            if let Err(error) = stock.add(heap, line.as_bytes()) {
+                bail!("line {}: {error}", k + 1);
+            }
+        }
+        Ok(stock)
     }
 }

@@ -1,4 +1,0 @@
-pub mod Failing
-pub mod Parts
-pub mod Requests
-pub mod Texts
