@@ -2,8 +2,6 @@
 #![tactic(auto)]
 
 mod fixed;
-#[cfg(test)]
-mod tests;
 mod turn;
 
 pub use fixed::law_fixes_lines;

@@ -38,22 +38,3 @@ pub fn copy_rows(digits: &[u8], room: &mut [OnOff]) -> Option<()>
     }
     Some(())
 }
-
-#[cfg(test)]
-mod tests {
-    use super::*;
-    use std::test::Fail;
-
-    #[test]
-    fn digits_are_rows_and_other_text_is_none(rt: HostRuntime) -> Result<(), Fail> {
-        let Ok(rows) = rows_from(rt.alloc(), "0110") else {
-            return Err(Fail::new("no rows"));
-        };
-        assert_eq!(rt;
-            rows.as_slice(),
-            [OnOff::Off, OnOff::On, OnOff::On, OnOff::Off].as_slice()
-        );
-        assert!(rt; rows_from(rt.alloc(), "01 0").is_err());
-        Ok(())
-    }
-}

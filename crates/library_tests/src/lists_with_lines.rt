@@ -1,4 +1,4 @@
-use crate::{Turn, TurnAnswer};
+use line_runs::{Turn, TurnAnswer};
 use refusals::Refusal;
 use rows::OnOff;
 use runs::{Call, Grant, Question, open_and_play_entries};
