@@ -1,5 +1,5 @@
 -- The steps of the search: a pin more, a pin that no usable wiring goes on with, and the end.
-use Rattle.std.proofs.Common.{rules, ◌≡◌, ℕ, suc, ◌+◌, ◌-◌, ◌^◌, ◌<◌, ◌≤◌, Bool, true, false, List, [], ◌∷◌, length, get_or, set, Some, None, Option, sym, ap, ◌∙◌, subst, inl, inr, refl, ⊎_elim, add-one, arith, pow_pos, pow_mono}
+use Rattle.std.proofs.Common.{rules, ◌≡◌, ℕ, suc, ◌+◌, ◌-◌, ◌^◌, ◌<◌, ◌≤◌, ◌≢◌, Bool, true, false, List, [], ◌∷◌, length, get_or, set, Some, None, Option, sym, ap, ◌∙◌, subst, inl, inr, refl, ⊎_elim, add-one, arith, pow_pos, pow_mono}
 use borrow.Author.Count.{below_more}
 use Rattle.std.proofs.lemmas.List.{get_or-set_same, get_or-set_other}
 use Rattle.std.proofs.lemmas.Bool.{cases_eq, cases_lt, both_ways}
@@ -11,6 +11,9 @@ use Rattle.tables.specs.declared.partial_wiring.PartialWiring.{PartialWiring}
 use Rattle.tables.specs.declared.table.Table.{Table}
 use Rattle.tables.specs.declared.wiring.Wiring.{Wiring}
 use Rattle.tables.specs.Above.{SumsAbove}
+use Rattle.tables.specs.Sums.{weighed}
+use Rattle.tables.proofs.Reading.{same_inputs}
+use Rattle.tables.proofs.Reindex.{total_there}
 use Rattle.tables.proofs.Carries.{carry_ext, carry_low, carry_high, carry_up, carry_lt, agree_row, rows_agree}
 use Rattle.matching.specs.declared.search.Search.{Search}
 use Rattle.matching.specs.Struck.{struck}
@@ -25,6 +28,17 @@ some (x ∷ xs) lt = x
 
 a_row : {R : Type 0} → Table R → R
 a_row table = let pos = pow_pos table.inputs in some table.rows.now (omega (arith, table.whole))
+
+-- tables with unlike numbers of inputs have no usable wiring
+pub unlike_sizes : {R : Type 0} (same : R → R → Bool) (card part : Table R) (strikes : List (List Bool)) → card.inputs ≢ part.inputs → Found same card part strikes None
+unlike_sizes same card part strikes unlike w usable = unlike (same_inputs card.inputs part.inputs (sym usable.agree.part_rows ∙ part.whole))
+
+-- nor have tables whose rows weigh unlike in all
+pub unlike_weights : {R : Type 0} (same : R → R → Bool) (weight : R → ℕ) (alike : (x y : R) → same x y ≡ true → weight x ≡ weight y) (card part : Table R) (strikes : List (List Bool))
+    → weighed weight card.rows.now (2 ^ card.inputs) ≢ weighed weight part.rows.now (2 ^ part.inputs) → Found same card part strikes None
+unlike_weights same weight alike card part strikes unlike w usable =
+    let a = usable.agree in
+    unlike (total_there same weight alike card.inputs card.rows.now part.rows.now w a ∙ ap (λ k. weighed weight part.rows.now k) (sym a.part_rows ∙ part.whole))
 
 -- what holds of the lower and of the upper half
 halves : (P : ℕ → Type 0) (h m : ℕ) → m ≡ h + h → ((r : ℕ) → r < h → P r) → ((r : ℕ) → r < h → P (h + r)) → (r : ℕ) → r < m → P r

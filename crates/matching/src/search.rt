@@ -8,7 +8,7 @@ use crate::exchanging::lower_pins;
 use crate::sharing::{is_left_out, with_unlike};
 use crate::strikes::Strikes;
 use rows::RowKind;
-use tables::{PartialWiring, Table, Wiring, sums_above};
+use tables::{PartialWiring, Table, Wiring, sums_above, total_weight};
 
 // Whether a card row may be carried to a part row: they are the same, and so are the sums above them. The sums come first,
 // since they tell much of what is not yet decided.
@@ -171,6 +171,13 @@ pub fn first_wiring<R: RowKind>(
 ) -> Option<Wiring>
     ensures { Found R.RowKind.same card.now part.now strikes.now.struck result }
 {
+    // Both are far quicker than the sums above every row.
+    if card.inputs != part.inputs {
+        return None;
+    }
+    if total_weight(card) != total_weight(part) {
+        return None;
+    }
     let mut card_sums = [0; 1024];
     let mut part_sums = [0; 1024];
     sums_above(card, &mut card_sums);

@@ -14,7 +14,7 @@ use matching::{Strikes, first_wiring_by_sums};
 use refusals::Refusal;
 use rows::RowKind;
 use signatures::Signature;
-use tables::{Table, sums_above};
+use tables::{Table, sums_above, total_weight};
 
 // The slot's label, if its part could be proposed in place of the best so far: the right number of inputs, and a lower
 // number.
@@ -31,9 +31,9 @@ fn worth(slot: Option<Label>, inputs: usize, best: &Option<Proposal>) -> Option<
     }
 }
 
-// What one part has to propose. The sums of the card are worked out before, once for all parts. Only where there is a wiring
-// is the pile asked how many pairs it strikes: a part that agrees has the card's lists in another order, so those of the
-// card tell.
+// What one part has to propose. The sums of the card are worked out before, once for all parts. A part of another weight
+// cannot agree, and its sums are not worked out. Only where there is a wiring is the pile asked how many pairs it strikes: a
+// part that agrees has the card's lists in another order, so those of the card tell.
 fn propose<R: RowKind, P: Signature<R>>(
     pile: &P,
     card: &Table<R>,
@@ -45,6 +45,9 @@ fn propose<R: RowKind, P: Signature<R>>(
     requires size { part.now.inputs ≡ card.now.inputs }
     ensures { Best R.RowKind.same (list_by P.Signature.count P.Signature.value) (λ x. x ≡ record { number = label.number; inputs = part.now.inputs; rows = part.now.rows.now }) card.now.inputs card.now.rows.now pile.now result }
 {
+    if total_weight(part) != sums[0] {
+        return None;
+    }
     let mut part_sums = [0; 1024];
     sums_above(part, &mut part_sums);
     let wiring = first_wiring_by_sums(card, part, sums, &part_sums, &Strikes::none())?;

@@ -1,11 +1,9 @@
-use Rattle.std.proofs.Common.{sym, ◌∙◌}
-use Rattle.tables.proofs.Reading.{same_inputs}
 use Rattle.matching.proofs.Unlike.{none_left_out, found_less}
-use Rattle.matching.proofs.Choosing.{parted_first, found}
+use Rattle.matching.proofs.Choosing.{unlike_sizes, parted_first, found}
 use Rattle.matching.proofs.search.first_wiring_by_sums.Goals as goal
 
 pub returns-then-card-part : goal.returns-then-card-part
-returns-then-card-part g c = λ w usable. c.if-card-part.true (same_inputs c.args.card.now.inputs c.args.part.now.inputs (sym usable.agree.part_rows ∙ c.args.part.now.whole))
+returns-then-card-part g c = unlike_sizes g.R.RowKind.same c.args.card.now c.args.part.now c.args.strikes.now.struck c.if-card-part.true
 
 pub returns-then-is_left_out : goal.returns-then-is_left_out
 returns-then-is_left_out g c =
